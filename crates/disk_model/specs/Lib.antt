@@ -1,0 +1,9 @@
+pub mod File
+pub mod Disk
+pub mod Grew
+pub mod Past
+pub mod Memory
+pub mod Start
+pub mod Counting
+pub mod Object
+pub use Rattle.fault_counts.specs.Rose
