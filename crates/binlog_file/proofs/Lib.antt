@@ -1,0 +1,3 @@
+pub mod TransactionLemmas
+pub mod LoggedLemmas
+pub mod CallLemmas

@@ -1,0 +1,4 @@
+pub mod Transaction
+pub mod Logged
+pub mod Binlog
+pub mod Tail
