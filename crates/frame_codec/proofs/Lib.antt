@@ -1,2 +1,3 @@
+pub mod CrcLemmas
 pub mod FrameLemmas
 pub mod ChainLemmas

@@ -1,4 +1,5 @@
 pub mod Bytes
 pub mod Crc
+pub mod Tables
 pub mod Frame
 pub mod Chain
