@@ -1,3 +1,4 @@
 pub mod CrcLemmas
+pub mod LayoutLemmas
 pub mod FrameLemmas
 pub mod ChainLemmas

@@ -5,6 +5,11 @@
 #![tactic(auto)]
 
 mod checksum;
+mod header;
+mod read;
 mod tables;
+mod write;
 
 pub use checksum::crc;
+pub use read::{Frame, frame_at};
+pub use write::put_frame;
