@@ -1,3 +1,5 @@
+pub mod CrcLemmas
+pub mod LayoutLemmas
 pub mod FrameLemmas
 pub mod ChainLemmas
 pub mod CrcBounds

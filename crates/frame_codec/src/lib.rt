@@ -3,3 +3,13 @@
 //! One idea makes it right: a frame is the spelling of an event at a position behind a checksum (`frame_of`), so what is written is
 //! that spelling, and what is read is the one event that it spells, or there is none. It stands on std alone.
 #![tactic(auto)]
+
+mod checksum;
+mod header;
+mod read;
+mod tables;
+mod write;
+
+pub use checksum::crc;
+pub use read::{Frame, frame_at};
+pub use write::put_frame;
