@@ -1,7 +1,7 @@
 -- What a source and a sink in memory are, and what one call of each does, to the byte. (This project.)
-use Rattle.std.specs.Prelude.{◌≡◌, ◌≤◌, ◌<◌, ◌+◌, ◌==◌, ◌++◌, ◌⊎◌, ℕ, Bool, List, Result, IsErr, IsOk, OnOk, OnErr, IfOk, IsTrue, is_err, min, length, take, drop, cond}
+use Rattle.std.specs.Prelude.{◌≡◌, ◌+◌, ◌==◌, ◌++◌, ◌⊎◌, ℕ, Bool, List, Result, IsErr, OnOk, OnErr, IfOk, IsTrue, is_err, min, length, take, drop, cond}
 use Rattle.std.specs.List.{list_any}
-use Rattle.fault_counts.specs.Rose.{last, Rose}
+use Rattle.fault_counts.specs.Rose.{last}
 use Rattle.outer_io.specs.declared.ends.Failed.{Failed}
 
 -- a source in memory: what is left, how much one read gives at most, which reads fail, and how many there were and failed

@@ -1,5 +1,4 @@
-use Rattle.std.proofs.Common.{refl, arith, rules}
-use Rattle.std.proofs.lemmas.Grind.{common_steps}
+use Rattle.std.proofs.Common.{arith, rules}
 use Rattle.std.proofs.lemmas.List.{take_rest}
 use Rattle.outer_io.proofs.EndsLemmas.{put_more, put_front}
 use Rattle.outer_io.proofs.writing.write_all.Goals as goal

@@ -1,7 +1,5 @@
-use Rattle.std.proofs.Common.{rules, arith, ◌≡◌, ◌≤◌, ◌<◌, ◌⊎◌, ℕ, List, [], Option, Some, take, length, IfOk, OnErr, ◌+◌, ◌-◌, ◌∷◌, ◌++◌, nat_eq, refl, inl, inr}
+use Rattle.std.proofs.Common.{rules, arith, inl}
 use Rattle.std.proofs.lemmas.Grind.{common_steps}
-use Rattle.outer_io.specs.Ends.{Put, Counts}
-use Rattle.outer_io.specs.Memory.{Writing, Writes}
 use Rattle.outer_io.proofs.memory_sink.MemorySinkSink.write.Goals as goal
 
 pub returns-then-contains-clause-writes : goal.returns-then-contains-clause-writes

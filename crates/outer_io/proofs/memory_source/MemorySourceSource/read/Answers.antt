@@ -1,4 +1,4 @@
-use Rattle.std.proofs.Common.{rules, arith, refl, ap, sym, ◌∙◌}
+use Rattle.std.proofs.Common.{rules, arith}
 use Rattle.std.proofs.lemmas.Grind.{common_steps}
 use Rattle.outer_io.proofs.MemoryLemmas.{took_front}
 use Rattle.outer_io.proofs.memory_source.MemorySourceSource.read.Goals as goal
