@@ -1,6 +1,6 @@
 -- The checksum of frames and headers: the CRC-32 of MySQL's events and of zip files, with the polynomial 0xEDB88320, reflected.
 -- (MySQL Internals Manual, "Binary Log Event", checksum; the polynomial is that of IEEE 802.3)
-use Rattle.std.specs.Prelude.{ℕ, zero, suc, ◌+◌, ◌/◌, ◌%◌, ◌^◌, ◌-◌, ◌==◌, if◌then◌else◌, List, [], ◌∷◌, bit_xor}
+use Rattle.std.specs.Prelude.{ℕ, zero, suc, ◌/◌, ◌%◌, ◌^◌, ◌-◌, ◌==◌, if◌then◌else◌, List, [], ◌∷◌, bit_xor}
 
 -- the polynomial, lowest power in the highest bit
 abbrev pub polynomial : ℕ

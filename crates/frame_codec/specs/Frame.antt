@@ -1,7 +1,7 @@
 -- One event as it stands in a file: a frame, chained to the frame before it by its checksum.
 -- The first 19 bytes and the place of the checksum are MySQL's (MySQL Internals Manual, "Event Header"); the chaining, the fixed
 -- fields and the limit are this project's.
-use Rattle.std.specs.Prelude.{◌≡◌, ◌≤◌, ◌+◌, ℕ, List, [], ◌∷◌, ◌++◌, length}
+use Rattle.std.specs.Prelude.{◌≡◌, ◌≤◌, ◌+◌, ℕ, List, ◌∷◌, ◌++◌, length}
 use Rattle.frame_codec.specs.Bytes.{le16, le32}
 use Rattle.frame_codec.specs.Crc.{crc_of}
 
