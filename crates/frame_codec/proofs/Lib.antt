@@ -1,4 +1,5 @@
 pub mod CrcLemmas
 pub mod LayoutLemmas
+pub mod ReadLemmas
 pub mod FrameLemmas
 pub mod ChainLemmas
