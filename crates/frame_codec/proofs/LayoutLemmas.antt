@@ -9,12 +9,12 @@ use Rattle.frame_codec.specs.Header.{header_of}
 -- a header is written field by field
 pub header_written : (kind size end : ℕ) (s e : List ℕ) → s ≡ le32 size → e ≡ le32 end
     → 0 ∷ 0 ∷ 0 ∷ 0 ∷ kind ∷ 1 ∷ 0 ∷ 0 ∷ 0 ∷ get_or s 0 0 ∷ get_or s 1 0 ∷ get_or s 2 0 ∷ get_or s 3 0
-      ∷ get_or e 0 0 ∷ get_or e 1 0 ∷ get_or e 2 0 ∷ get_or e 3 0 ∷ 0 ∷ 0 ∷ [] ≡ header_of kind size end
+    ∷ get_or e 0 0 ∷ get_or e 1 0 ∷ get_or e 2 0 ∷ get_or e 3 0 ∷ 0 ∷ 0 ∷ [] ≡ header_of kind size end
 unfolding header_of le32 le16
 header_written kind size end s e is_size is_end =
     let bytes : List ℕ → List ℕ → List ℕ = λ s e.
-      0 ∷ 0 ∷ 0 ∷ 0 ∷ kind ∷ 1 ∷ 0 ∷ 0 ∷ 0 ∷ get_or s 0 0 ∷ get_or s 1 0 ∷ get_or s 2 0 ∷ get_or s 3 0
-      ∷ get_or e 0 0 ∷ get_or e 1 0 ∷ get_or e 2 0 ∷ get_or e 3 0 ∷ 0 ∷ 0 ∷ [] in
+    0 ∷ 0 ∷ 0 ∷ 0 ∷ kind ∷ 1 ∷ 0 ∷ 0 ∷ 0 ∷ get_or s 0 0 ∷ get_or s 1 0 ∷ get_or s 2 0 ∷ get_or s 3 0
+    ∷ get_or e 0 0 ∷ get_or e 1 0 ∷ get_or e 2 0 ∷ get_or e 3 0 ∷ 0 ∷ 0 ∷ [] in
     ap (λ s. bytes s e) is_size ∙ ap (bytes (le32 size)) is_end
 
 -- a frame begins with its header, and its body follows

@@ -84,14 +84,14 @@ pub header_missing : (prev at size end : ℕ) (bytes first header : List ℕ) (e
 header_missing prev at size end bytes first header event frame is_first is_size is_end is_header missing =
     let sized : size ≡ size_of event = size_read prev at size bytes first event frame is_first is_size in
     let whole : header_of event.kind (size_of event) (at + size_of event) ≡ header =
-      sym (is_header
-        ∙ ap (λ n. header_of n size end) (kind_read prev at bytes first event frame is_first)
-        ∙ ap (header_of event.kind size) is_end
-        ∙ ap (λ n. header_of event.kind n (at + n)) sized) in
+    sym (is_header
+    ∙ ap (λ n. header_of n size end) (kind_read prev at bytes first event frame is_first)
+    ∙ ap (header_of event.kind size) is_end
+    ∙ ap (λ n. header_of event.kind n (at + n)) sized) in
     let rest : List ℕ = event.body ++ (le32 (checksum_of prev at event) ++ frame.rest) in
     both_ways _ (sym missing)
-      ((starts_is Decides-eqb bytes header (starts_with ◌==◌ bytes header) refl).1 rest
-        (frame_begins prev at bytes event frame ∙ ap (λ front. front ++ rest) whole))
+    ((starts_is Decides-eqb bytes header (starts_with ◌==◌ bytes header) refl).1 rest
+    (frame_begins prev at bytes event frame ∙ ap (λ front. front ++ rest) whole))
 
 -- bytes whose checksum is another have no frame
 pub checksum_missing : (prev at size sum : ℕ) (bytes first stored tail : List ℕ) (event : Event) → IsFrameAt prev at bytes event → first ≡ take 19 bytes
@@ -102,11 +102,11 @@ checksum_missing prev at size sum bytes first stored tail event frame is_first i
     let long : length (front_of at event) ≡ size - 4 = omega (arith, length-front_of at event) in
     let parts = frame.stands ∙ frame_of-parts prev at event frame.rest in
     let summed : sum ≡ checksum_of prev at event =
-      is_sum ∙ ap (crc_of prev) (ap (take (size - 4)) parts ∙ take_at (front_of at event) _ (size - 4) long) in
+    is_sum ∙ ap (crc_of prev) (ap (take (size - 4)) parts ∙ take_at (front_of at event) _ (size - 4) long) in
     both_ways _ (sym missing)
-      ((starts_is Decides-eqb tail stored (starts_with ◌==◌ tail stored) refl).1 frame.rest
-        (is_tail ∙ ap (drop (size - 4)) parts ∙ drop_at (front_of at event) _ (size - 4) long
-          ∙ ap (λ bytes. bytes ++ frame.rest) (sym (is_stored ∙ ap le32 summed))))
+    ((starts_is Decides-eqb tail stored (starts_with ◌==◌ tail stored) refl).1 frame.rest
+    (is_tail ∙ ap (drop (size - 4)) parts ∙ drop_at (front_of at event) _ (size - 4) long
+    ∙ ap (λ bytes. bytes ++ frame.rest) (sym (is_stored ∙ ap le32 summed))))
 
 -- ---- what the bytes have to say
 
@@ -158,11 +158,11 @@ frame_read prev at kind size end sum bytes header stored tail least within insid
         ends = omega arith;
         rest = rest;
         stands =
-          sym (take-append-drop (size - 4) bytes)
-          ∙ ap (λ back. take (size - 4) bytes ++ back) (sym is_tail ∙ starts_rest tail stored closes)
-          ∙ ap (λ front. front ++ (stored ++ rest)) (sym front)
-          ∙ ap (λ bytes. front_of at event ++ (bytes ++ rest)) (is_stored ∙ ap le32 summed)
-          ∙ sym (append_assoc (front_of at event) (le32 (checksum_of prev at event)) rest);
+            sym (take-append-drop (size - 4) bytes)
+            ∙ ap (λ back. take (size - 4) bytes ++ back) (sym is_tail ∙ starts_rest tail stored closes)
+            ∙ ap (λ front. front ++ (stored ++ rest)) (sym front)
+            ∙ ap (λ bytes. front_of at event ++ (bytes ++ rest)) (is_stored ∙ ap le32 summed)
+            ∙ sym (append_assoc (front_of at event) (le32 (checksum_of prev at event)) rest);
       };
       kind = refl;
       body_start = refl;
