@@ -1,10 +1,16 @@
 -- Lemmas on a frame's layout: its header, its front, and what stands where in it.
 use Rattle.std.proofs.Common.{◌≡◌, ℕ, ◌+◌, ◌≤◌, List, [], ◌∷◌, ◌++◌, length, get_or, take, drop, ◌-◌, refl, sym, ◌∙◌, ap, arith, append_assoc, length-append}
 use Rattle.std.proofs.lemmas.List.{drop_at, take_rest}
+use Rattle.std.specs.Int.{w32, to_le_bytes}
 use Rattle.frame_codec.specs.Bytes.{le16, le32}
 use Rattle.frame_codec.specs.Crc.{crc_of}
 use Rattle.frame_codec.specs.Frame.{Event, size_of, front_of, checksum_of, frame_of}
 use Rattle.frame_codec.specs.Header.{header_of}
+
+-- the bytes that the code makes of a number
+pub le32-bytes : (n : ℕ) → to_le_bytes w32 n ≡ le32 n
+unfolding le32
+le32-bytes n = refl
 
 -- a header is written field by field
 pub header_written : (kind size end : ℕ) (s e : List ℕ) → s ≡ le32 size → e ≡ le32 end

@@ -6,7 +6,7 @@ use Rattle.std.proofs.lemmas.List.{take_at, drop_at, take-append-drop, length-ta
 use Rattle.std.proofs.lemmas.Nat.{from_le_bytes-to_le_bytes_4}
 use Rattle.std.proofs.lemmas.Slice.Eq.{starts_is}
 use Rattle.std.proofs.Math.Seq.{take-add}
-use Rattle.std.specs.Int.{w32, to_le_bytes, from_le_bytes}
+use Rattle.std.specs.Int.{w32, from_le_bytes}
 use Rattle.std.specs.List.{starts_with}
 use Rattle.frame_codec.specs.Bytes.{le16, le32}
 use Rattle.frame_codec.specs.Crc.{crc_of}
@@ -15,11 +15,6 @@ use Rattle.frame_codec.specs.Header.{header_of}
 use Rattle.frame_codec.specs.Read.{Reads}
 use Rattle.frame_codec.proofs.FrameLemmas.{length-le32, length-front_of, length-frame_of}
 use Rattle.frame_codec.proofs.LayoutLemmas.{front_of-header}
-
--- the bytes that the code makes of a number
-pub le32-bytes : (n : ℕ) → to_le_bytes w32 n ≡ le32 n
-unfolding le32
-le32-bytes n = refl
 
 pub length-header_of : (kind size end : ℕ) → length (header_of kind size end) ≡ 19
 unfolding header_of le32 le16

@@ -2,7 +2,8 @@
 use Rattle.std.proofs.Common.{◌≡◌, ◌<◌, ◌≤◌, ◌+◌, ◌-◌, ℕ, List, ◌∙◌, arith}
 use Rattle.std.proofs.lemmas.List.{take_rest}
 use Rattle.frame_codec.specs.Frame.{Event, size_of, IsFrameAt}
-use Rattle.frame_codec.proofs.ReadLemmas.{le32-bytes, frame_read, frame_whole, size_read, header_missing, checksum_missing}
+use Rattle.frame_codec.proofs.LayoutLemmas.{le32-bytes}
+use Rattle.frame_codec.proofs.ReadLemmas.{frame_read, frame_whole, size_read, header_missing, checksum_missing}
 use Rattle.frame_codec.proofs.read.frame_at.Goals as goal
 use Rattle.frame_codec.proofs.read.frame_at.Goals.{then-end-gt-LIMIT-via-then-end-gt-LIMIT, then-end-gt-LIMIT-via-else-end-gt-LIMIT+then-size, then-end-gt-LIMIT-via-else-end-gt-LIMIT+else-size+then-bytes-size}
 
