@@ -265,3 +265,12 @@ pub byte_more : (r place after : ℕ) (bytes : List ℕ) → place < length byte
 unfolding shifted_bytes
 byte_more r place after bytes lt stepped =
     ap (λ n. register n (drop (place + 1) bytes)) stepped ∙ sym (ap (register r) (drop_more bytes place 0 lt))
+
+-- ---- the checksum
+
+pub crc_of-append : (start : ℕ) (front back : List ℕ) → crc_of (crc_of start front) back ≡ crc_of start (front ++ back)
+unfolding crc_of
+crc_of-append start front back =
+    let begun : ℕ = bit_xor start (2 ^ 32 - 1) in
+    ap (λ r. bit_xor (register r back) (2 ^ 32 - 1)) (xor_twice (register begun front) (2 ^ 32 - 1))
+    ∙ ap (λ r. bit_xor r (2 ^ 32 - 1)) (sym (register-append begun front back))

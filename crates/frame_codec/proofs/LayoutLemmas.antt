@@ -1,20 +1,26 @@
 -- Lemmas on a frame's layout: its header, its front, and what stands where in it.
 use Rattle.std.proofs.Common.{◌≡◌, ℕ, ◌+◌, ◌≤◌, List, [], ◌∷◌, ◌++◌, length, get_or, take, drop, ◌-◌, refl, sym, ◌∙◌, ap, arith, append_assoc, length-append}
 use Rattle.std.proofs.lemmas.List.{drop_at, take_rest}
+use Rattle.std.specs.Int.{w32, to_le_bytes}
 use Rattle.frame_codec.specs.Bytes.{le16, le32}
 use Rattle.frame_codec.specs.Crc.{crc_of}
 use Rattle.frame_codec.specs.Frame.{Event, size_of, front_of, checksum_of, frame_of}
 use Rattle.frame_codec.specs.Header.{header_of}
 
+-- the bytes that the code makes of a number
+pub le32-bytes : (n : ℕ) → to_le_bytes w32 n ≡ le32 n
+unfolding le32
+le32-bytes n = refl
+
 -- a header is written field by field
 pub header_written : (kind size end : ℕ) (s e : List ℕ) → s ≡ le32 size → e ≡ le32 end
     → 0 ∷ 0 ∷ 0 ∷ 0 ∷ kind ∷ 1 ∷ 0 ∷ 0 ∷ 0 ∷ get_or s 0 0 ∷ get_or s 1 0 ∷ get_or s 2 0 ∷ get_or s 3 0
-      ∷ get_or e 0 0 ∷ get_or e 1 0 ∷ get_or e 2 0 ∷ get_or e 3 0 ∷ 0 ∷ 0 ∷ [] ≡ header_of kind size end
+    ∷ get_or e 0 0 ∷ get_or e 1 0 ∷ get_or e 2 0 ∷ get_or e 3 0 ∷ 0 ∷ 0 ∷ [] ≡ header_of kind size end
 unfolding header_of le32 le16
 header_written kind size end s e is_size is_end =
     let bytes : List ℕ → List ℕ → List ℕ = λ s e.
-      0 ∷ 0 ∷ 0 ∷ 0 ∷ kind ∷ 1 ∷ 0 ∷ 0 ∷ 0 ∷ get_or s 0 0 ∷ get_or s 1 0 ∷ get_or s 2 0 ∷ get_or s 3 0
-      ∷ get_or e 0 0 ∷ get_or e 1 0 ∷ get_or e 2 0 ∷ get_or e 3 0 ∷ 0 ∷ 0 ∷ [] in
+    0 ∷ 0 ∷ 0 ∷ 0 ∷ kind ∷ 1 ∷ 0 ∷ 0 ∷ 0 ∷ get_or s 0 0 ∷ get_or s 1 0 ∷ get_or s 2 0 ∷ get_or s 3 0
+    ∷ get_or e 0 0 ∷ get_or e 1 0 ∷ get_or e 2 0 ∷ get_or e 3 0 ∷ 0 ∷ 0 ∷ [] in
     ap (λ s. bytes s e) is_size ∙ ap (bytes (le32 size)) is_end
 
 -- a frame begins with its header, and its body follows

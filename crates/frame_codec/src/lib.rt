@@ -6,10 +6,14 @@
 
 mod checksum;
 mod header;
+mod laws;
 mod read;
 mod tables;
+#[cfg(test)]
+mod tests;
 mod write;
 
 pub use checksum::crc;
+pub use laws::{crc_goes_on, one_event_at_a_place};
 pub use read::{Frame, frame_at};
 pub use write::put_frame;
