@@ -1,8 +1,7 @@
 -- A file to which bytes were only added since its last sync.
-use Rattle.std.proofs.Common.{◌≡◌, ◌⊎◌, inl, inr, ⊎_elim, ℕ, ◌+◌, ◌-◌, ◌<◌, ◌≤◌, min, max, List, [], ◌∷◌, ◌++◌, length, take, drop, get_or, refl, sym, ◌∙◌, ap, subst, arith, length-append}
-use Rattle.std.proofs.lemmas.List.{ext_get_or, get_or-take, length-take-le, take_all, drop_all, append-nil, take-append-le, take_at, length-take}
-use Rattle.std.proofs.lemmas.Grind.{common_steps}
-use Rattle.disk_model.specs.File.{File, Step, Wrote, CutTo, after_steps, written, IsMeant, IsWritten, least, IsImage}
+use Rattle.std.proofs.Common.{◌≡◌, ⊎_elim, ℕ, ◌+◌, ◌<◌, ◌≤◌, List, [], ◌∷◌, ◌++◌, length, take, drop, refl, sym, ◌∙◌, ap, subst, arith}
+use Rattle.std.proofs.lemmas.List.{ext_get_or, get_or-take, length-take-le, take_all, drop_all, append-nil, take-append-le, length-take}
+use Rattle.disk_model.specs.File.{File, Step, Wrote, after_steps, written, IsImage}
 use Rattle.disk_model.specs.Grew.{OnlyGrew}
 
 -- nothing was asked for yet

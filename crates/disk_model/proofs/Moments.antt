@@ -1,5 +1,5 @@
 -- How a run of device calls goes on.
-use Rattle.std.proofs.Common.{◌≡◌, ◌≢◌, ◌⊎◌, inl, inr, ⊎_elim, ℕ, ◌+◌, ◌-◌, ◌<◌, ◌≤◌, ◌^◌, min, Result, Ok, IsErr, IsTrue, refl, sym, ◌∙◌, ap, subst, arith}
+use Rattle.std.proofs.Common.{◌≡◌, ◌≢◌, ◌⊎◌, inl, inr, ⊎_elim, ℕ, ◌<◌, ◌≤◌, Result, Ok, IsTrue, refl, sym, ◌∙◌, subst, arith}
 use Rattle.disk_model.specs.declared.storage.Failed.{Failed}
 use Rattle.disk_model.specs.File.{File}
 use Rattle.disk_model.specs.Disk.{Disk, now, Does, Called, Keeps, Only}

@@ -1,6 +1,5 @@
--- Files by the calls that were made.
-use std.Path.{fun_ext}
-use Rattle.std.proofs.Common.{◌≡◌, ◌≢◌, ◌⊎◌, inl, inr, ⊎_elim, ℕ, ◌+◌, ◌-◌, ◌<◌, ◌≤◌, max, Bool, true, false, not, nat_lt, ◌==◌, List, [], ◌∷◌, ◌++◌, take, drop, length, min, if◌then◌else◌, Result, Ok, IsErr, refl, sym, ◌∙◌, ap, subst, arith}
+-- Files by the calls that were made, and the answer of a whole call on a storage in memory.
+use Rattle.std.proofs.Common.{◌≡◌, ◌≢◌, ◌⊎◌, inl, inr, ⊎_elim, ℕ, ◌+◌, ◌<◌, ◌≤◌, max, Bool, true, false, nat_lt, nat_le, ◌==◌, ◌&&◌, List, [], ◌∷◌, ◌++◌, take, drop, length, min, if◌then◌else◌, Result, Ok, IsErr, refl, sym, ◌∙◌, ap, subst, arith}
 use Rattle.std.proofs.lemmas.Bool.Decides.{nat_tests}
 use Rattle.std.proofs.lemmas.List.{length-drop}
 use Rattle.disk_model.specs.declared.storage.Failed.{Failed}
@@ -9,97 +8,125 @@ use Rattle.disk_model.specs.declared.past.Kind.{Kind}
 use Rattle.disk_model.specs.declared.past.Kind.TheVariants.{Write, Cut, Sync}
 use Rattle.disk_model.specs.declared.memory.MemoryStorage.{MemoryStorage}
 use Rattle.disk_model.specs.declared.past.FileBytes.{FileBytes}
-use Rattle.disk_model.specs.File.{File, Step, Wrote, CutTo, Stays, written}
-use Rattle.disk_model.specs.Disk.{Disk, now, Does, Called, Fills}
+use Rattle.disk_model.specs.File.{File, Stays, written}
+use Rattle.disk_model.specs.Disk.{now, contents, Does, Called, Fills}
+use Rattle.disk_model.specs.Held.{held, bytes_in}
 use Rattle.fault_counts.specs.Rose.{last}
 use Rattle.disk_model.specs.Counting.{Counted, Faulted, SameBut}
-use Rattle.disk_model.specs.Past.{newest, step_of, replayed, bytes_after, AddsCall, write_step, cut_step, sync_step}
-use Rattle.disk_model.specs.Start.{first_bytes, first_file}
+use Rattle.disk_model.specs.Past.{newest, until, step_of, replayed, after_call, after_calls, fits, all_fit, AddsCall}
+use Rattle.disk_model.specs.Start.{first_file}
 use Rattle.disk_model.specs.Memory.{memory_disk}
+use Rattle.disk_model.proofs.HeldLemmas.{bool_cases, bytes_put_here, bytes_put_other, bytes_cut_here, bytes_cut_other}
 
-counts : (m n : ℕ) → n ≤ m → not (nat_lt m n) ≡ true
-counts m n le = grind (arith, nat_tests)
+-- One call more, in each of the recursions.
 
-comes_later : (m n : ℕ) → m < n → not (nat_lt m n) ≡ false
-comes_later m n lt = grind (arith, nat_tests)
-
-abbrev write_step_raw : List ℕ → ℕ → List ℕ → File → File
-write_step_raw after at v f = record { bytes = after; synced = f.synced; steps = Wrote at v ∷ f.steps }
-
-abbrev cut_step_raw : List ℕ → ℕ → File → File
-cut_step_raw after len f = record { bytes = after; synced = f.synced; steps = CutTo len ∷ f.steps }
-
-abbrev sync_step_raw : List ℕ → File
-sync_step_raw after = record { bytes = after; synced = after; steps = [] }
-
--- what one call makes of a file at a moment
-abbrev acted : ℕ → ℕ → File → Call → File
-acted m file old call = replayed m file old (call ∷ [])
-
-acted_before : (m file : ℕ) (old : File) (call : Call) → m < call.number → acted m file old call ≡ old
-acted_before m file old call lt = rw (comes_later m call.number lt) refl
-
-acted_other : (m file : ℕ) (old : File) (call : Call) → (call.file == file) ≡ false → acted m file old call ≡ old
-acted_other m file old call other = elim (cases (not (nat_lt m call.number))) [
-  | inl counted ↦ rw (counted, other) refl
-  | inr not_yet ↦ rw not_yet refl
-]
-  where
-    cases : (b : Bool) → (b ≡ true) ⊎ (b ≡ false)
-    cases true = inl refl
-    cases false = inr refl
-
-acted_here : (m file : ℕ) (old : File) (call : Call) → call.number ≤ m → (call.file == file) ≡ true → acted m file old call ≡ step_of call.kind call.after.items old
-acted_here m file old call le here = rw (counts m call.number le, here) refl
-
-pub replayed-push : (m file : ℕ) (old : File) (past : List Call) (call : Call) → replayed m file old (past ++ call ∷ []) ≡ acted m file (replayed m file old past) call
-replayed-push m file old [] call = refl
-replayed-push m file old (c ∷ past) call = replayed-push m file (acted m file old c) past call
-
--- from the newest call on nothing changes
-pub replayed_steady : (m n file : ℕ) (old : File) (past : List Call) → newest past ≤ m → newest past ≤ n → replayed m file old past ≡ replayed n file old past
-replayed_steady m n file old [] le_m le_n = refl
-replayed_steady m n file old (c ∷ past) le_m le_n =
-    let same : acted m file old c ≡ acted n file old c = rw (counts m c.number (omega arith), counts n c.number (omega arith)) refl in
-    ap (λ (f : File). replayed m file f past) same ∙ replayed_steady m n file (acted n file old c) past (omega arith) (omega arith)
-
-step_bytes : (kind : Kind) (after : List ℕ) (old : File) → (step_of kind after old).bytes ≡ after
-step_bytes (Write at bytes) after old = refl
-step_bytes (Cut len) after old = refl
-step_bytes Sync after old = refl
-
-pub replayed_bytes : (m file : ℕ) (old : File) (past : List Call) → newest past ≤ m → (replayed m file old past).bytes ≡ bytes_after file old.bytes past
-replayed_bytes m file old [] le = refl
-replayed_bytes m file old (c ∷ past) le =
-    replayed_bytes m file (acted m file old c) past (omega arith) ∙ ap (λ (l : List ℕ). bytes_after file l past) (first (cases (c.file == file)))
-  where
-    cases : (b : Bool) → (b ≡ true) ⊎ (b ≡ false)
-    cases true = inl refl
-    cases false = inr refl
-
-    first : ((c.file == file) ≡ true) ⊎ ((c.file == file) ≡ false) → (acted m file old c).bytes ≡ bytes_after file old.bytes (c ∷ [])
-    first (inl here) = ap (λ (f : File). f.bytes) (acted_here m file old c (omega arith) here) ∙ step_bytes c.kind c.after.items old ∙ rw here refl
-    first (inr other) = ap (λ (f : File). f.bytes) (acted_other m file old c other) ∙ rw other refl
+pub replayed-push : (file : ℕ) (old : File) (past : List Call) (call : Call) → replayed file old (past ++ call ∷ []) ≡ replayed file (replayed file old past) (call ∷ [])
+replayed-push file old [] call = refl
+replayed-push file old (c ∷ past) call = replayed-push file (if c.file == file then step_of c.kind old else old) past call
 
 pub newest-push : (past : List Call) (call : Call) → newest (past ++ call ∷ []) ≡ max (newest past) call.number
 newest-push [] call = omega arith
 newest-push (c ∷ past) call = omega (arith, newest-push past call)
 
--- a call on this file that did its step
+pub after_calls-push : (files : List (ℕ × List ℕ)) (past : List Call) (call : Call) → after_calls files (past ++ call ∷ []) ≡ after_call call.file call.kind (after_calls files past)
+after_calls-push files [] call = refl
+after_calls-push files (c ∷ past) call = after_calls-push (after_call c.file c.kind files) past call
+
+pub both_true : (a b : Bool) → a ≡ true → b ≡ true → (a && b) ≡ true
+both_true a b p q = rw (p, q) refl
+
+pub first_true : (a b : Bool) → (a && b) ≡ true → a ≡ true
+first_true true b p = refl
+first_true false b p = p
+
+pub second_true : (a b : Bool) → (a && b) ≡ true → b ≡ true
+second_true true b p = p
+second_true false b p = absurd (cc)
+
+pub all_fit-push : (files : List (ℕ × List ℕ)) (past : List Call) (call : Call) → all_fit files past ≡ true → fits call.file call.kind (after_calls files past) ≡ true → all_fit files (past ++ call ∷ []) ≡ true
+all_fit-push files [] call all one = both_true _ true one refl
+all_fit-push files (c ∷ past) call all one =
+    both_true (fits c.file c.kind files) _ (first_true _ _ all) (all_fit-push (after_call c.file c.kind files) past call (second_true (fits c.file c.kind files) _ all) one)
+
+-- The calls up to a moment.
+
+-- all of them, from the newest on
+pub until_all : (moment : ℕ) (past : List Call) → newest past ≤ moment → until moment past ≡ past
+until_all moment [] le = refl
+until_all moment (c ∷ past) le =
+    let counts : nat_lt moment c.number ≡ false = grind (arith, nat_tests, le) in
+    rw counts (ap (λ (l : List Call). c ∷ l) (until_all moment past (omega arith)))
+
+-- a later call does not matter
+pub until_push : (moment : ℕ) (past : List Call) (call : Call) → moment < call.number → until moment (past ++ call ∷ []) ≡ until moment past
+until_push moment [] call lt = let late : nat_lt moment call.number ≡ true = grind (arith, nat_tests) in rw late refl
+until_push moment (c ∷ past) call lt = elim (bool_cases (nat_lt moment c.number)) [
+  | inl late ↦ rw late refl
+  | inr counts ↦ rw counts (ap (λ (l : List Call). c ∷ l) (until_push moment past call lt))
+]
+
+-- The bytes that are held are those that the calls make.
+
+-- of the file that is called
+pub call_bytes_here : (file : ℕ) (kind : Kind) (files : List (ℕ × List ℕ)) (g : File) → g.bytes ≡ bytes_in files file → (step_of kind g).bytes ≡ bytes_in (after_call file kind files) file
+call_bytes_here file (Write at bytes) files g is =
+    ap (λ (l : List ℕ). written at bytes.items l) is ∙ sym (bytes_put_here file (written at bytes.items (bytes_in files file)) files)
+call_bytes_here file (Cut len) files g is = ap (λ (l : List ℕ). take len l) is ∙ sym (bytes_cut_here file len files)
+call_bytes_here file Sync files g is = is
+
+-- of the others
+pub call_bytes_other : (file other : ℕ) (kind : Kind) (files : List (ℕ × List ℕ)) → other ≢ file → bytes_in (after_call file kind files) other ≡ bytes_in files other
+call_bytes_other file other (Write at bytes) files not = bytes_put_other file other (written at bytes.items (bytes_in files file)) files not
+call_bytes_other file other (Cut len) files not = bytes_cut_other file other len files not
+call_bytes_other file other Sync files not = refl
+
+-- of each, after one call
+pub call_bytes : (file : ℕ) (call : Call) (files : List (ℕ × List ℕ)) (g : File) → g.bytes ≡ bytes_in files file
+    → (if call.file == file then step_of call.kind g else g).bytes ≡ bytes_in (after_call call.file call.kind files) file
+call_bytes file call files g is = elim (bool_cases (call.file == file)) [
+  | inl here ↦
+      let same : call.file ≡ file = grind (arith, nat_tests, here) in
+      rw here (call_bytes_here file call.kind files g is ∙ ap (λ (n : ℕ). bytes_in (after_call n call.kind files) file) (sym same))
+  | inr other ↦
+      let differs : file ≢ call.file = λ same. (let yes : (call.file == file) ≡ true = grind (arith, nat_tests, same) in cc) in
+      rw other (is ∙ sym (call_bytes_other call.file file call.kind files differs))
+]
+
+-- of each, after all of them
+pub replayed_bytes : (file : ℕ) (g : File) (files : List (ℕ × List ℕ)) (past : List Call) → g.bytes ≡ bytes_in files file → (replayed file g past).bytes ≡ bytes_in (after_calls files past) file
+replayed_bytes file g files [] is = is
+replayed_bytes file g files (c ∷ past) is = replayed_bytes file (if c.file == file then step_of c.kind g else g) (after_call c.file c.kind files) past (call_bytes file c files g is)
+
+-- a file as it is now, by all of the calls
+pub file_now : (m : MemoryStorage) (file : ℕ) → now (memory_disk m) file ≡ replayed file (first_file (held m.start.items) file) m.past.items
+file_now m file = ap (λ (l : List Call). replayed file (first_file (held m.start.items) file) l) (until_all m.calls m.past.items m.numbered)
+
+-- what a read gives is what is held
+pub kept_bytes : (m : MemoryStorage) (file : ℕ) → bytes_in (held m.files.items) file ≡ contents (memory_disk m) file
+kept_bytes m file =
+    ap (λ (l : List (ℕ × List ℕ)). bytes_in l file) (sym m.replays)
+    ∙ sym (replayed_bytes file (first_file (held m.start.items) file) (held m.start.items) m.past.items refl)
+    ∙ ap (λ (f : File). f.bytes) (sym (file_now m file))
+
+abbrev files_by : List FileBytes → List Call → ℕ → File
+files_by start calls = λ file. replayed file (first_file (held start) file) calls
+
+-- a call on a file that did its step
 pub does_step : {T : Type 0} (old new : MemoryStorage) (file : ℕ) (step : File → File) (rel : File → File → Type 0) (result : Result T Failed) → new.start.items ≡ old.start.items → new.calls ≡ old.calls + 1
-    → AddsCall new.calls file (bytes_after file (first_bytes old.start.items file) old.past.items) step old.past.items new.past.items
-    → ((f : File) → rel f (step f)) → Does file rel result (memory_disk old) (memory_disk new)
+    → AddsCall new.calls file step old.past.items new.past.items → ((f : File) → rel f (step f)) → Does file rel result (memory_disk old) (memory_disk new)
 does_step old new file step rel result start calls adds did = record {
-  past = λ m le. fun_ext (λ f. pushed m f ∙ acted_before m f (replayed m f (first_file old.start.items f) old.past.items) adds.call (omega (arith, adds.number_is, le)));
-  others = λ f not. pushed new.calls f ∙ acted_other new.calls f (replayed new.calls f (first_file old.start.items f) old.past.items) adds.call (differ f not) ∙ steady f;
+  past = λ m le. ap (λ (l : List FileBytes). files_by l (until m new.past.items)) start
+      ∙ ap (λ (l : List Call). files_by old.start.items (until m l)) adds.is
+      ∙ ap (λ (l : List Call). files_by old.start.items l) (until_push m old.past.items adds.call (omega (arith, adds.number_is, le)));
+  others = λ f not. pushed f ∙ rw (differ f not) (sym (file_now old f));
   here = inl (subst (λ (f : File). rel (now (memory_disk old) file) f) (sym made) (did (now (memory_disk old) file)));
 }
   where
-    pushed : (m f : ℕ) → replayed m f (first_file new.start.items f) new.past.items ≡ acted m f (replayed m f (first_file old.start.items f) old.past.items) adds.call
-    pushed m f = cc (ap (λ (l : List FileBytes). replayed m f (first_file l f) new.past.items) start, ap (λ (l : List Call). replayed m f (first_file old.start.items f) l) adds.is, replayed-push m f (first_file old.start.items f) old.past.items adds.call)
-
-    steady : (f : ℕ) → replayed new.calls f (first_file old.start.items f) old.past.items ≡ replayed old.calls f (first_file old.start.items f) old.past.items
-    steady f = replayed_steady new.calls old.calls f (first_file old.start.items f) old.past.items (omega (arith, calls, old.numbered)) old.numbered
+    pushed : (f : ℕ) → now (memory_disk new) f ≡ replayed f (replayed f (first_file (held old.start.items) f) old.past.items) (adds.call ∷ [])
+    pushed f = file_now new f
+        ∙ ap (λ (l : List FileBytes). files_by l new.past.items f) start
+        ∙ ap (λ (l : List Call). files_by old.start.items l f) adds.is
+        ∙ replayed-push f (first_file (held old.start.items) f) old.past.items adds.call
 
     differ : (f : ℕ) → f ≢ file → (adds.call.file == f) ≡ false
     differ f not = grind (arith, nat_tests, adds.file_is)
@@ -108,29 +135,21 @@ does_step old new file step rel result start calls adds did = record {
     same = grind (arith, nat_tests, adds.file_is)
 
     made : now (memory_disk new) file ≡ step (now (memory_disk old) file)
-    made =
-        pushed new.calls file
-        ∙ acted_here new.calls file (replayed new.calls file (first_file old.start.items file) old.past.items) adds.call (omega (arith, adds.number_is)) same
-        ∙ ap (λ (f : File). step_of adds.call.kind adds.call.after.items f) (steady file)
-        ∙ adds.step_is (now (memory_disk old) file) (replayed_bytes old.calls file (first_file old.start.items file) old.past.items old.numbered)
+    made = pushed file ∙ rw same (adds.step_is (files_by old.start.items old.past.items file)) ∙ ap step (sym (file_now old file))
 
 -- a call that changed nothing
-module _ {T : Type 0} (old new : MemoryStorage) (file : ℕ) (rel : File → File → Type 0) (result : Result T Failed) (start : new.start.items ≡ old.start.items) (past : new.past.items ≡ old.past.items) (later : old.calls ≤ new.calls) where
-  same_at : (m f : ℕ) → (memory_disk new).at m f ≡ (memory_disk old).at m f
-  same_at m f = cc (ap (λ (l : List FileBytes). replayed m f (first_file l f) new.past.items) start, ap (λ (l : List Call). replayed m f (first_file old.start.items f) l) past)
+module _ {T : Type 0} (old new : MemoryStorage) (file : ℕ) (rel : File → File → Type 0) (result : Result T Failed) (start : new.start.items ≡ old.start.items) (past : new.past.items ≡ old.past.items) where
+  same_at : (m : ℕ) → (memory_disk new).at m ≡ (memory_disk old).at m
+  same_at m = ap (λ (l : List FileBytes). files_by l (until m new.past.items)) start ∙ ap (λ (l : List Call). files_by old.start.items (until m l)) past
 
   same_now : (f : ℕ) → now (memory_disk new) f ≡ now (memory_disk old) f
-  same_now f = same_at new.calls f ∙ replayed_steady new.calls old.calls f (first_file old.start.items f) old.past.items (omega (arith, later, old.numbered)) old.numbered
+  same_now f = file_now new f ∙ ap (λ (l : List FileBytes). files_by l new.past.items f) start ∙ ap (λ (l : List Call). files_by old.start.items l f) past ∙ sym (file_now old f)
 
   pub does_nothing : IsErr result → Does file rel result (memory_disk old) (memory_disk new)
-  does_nothing err = record { past = λ m le. fun_ext (λ f. same_at m f); others = λ f not. same_now f; here = inr (err, same_now file) }
+  does_nothing err = record { past = λ m le. same_at m; others = λ f not. same_now f; here = inr (err, same_now file) }
 
   pub does_stays : Does file Stays result (memory_disk old) (memory_disk new)
-  does_stays = record { past = λ m le. fun_ext (λ f. same_at m f); others = λ f not. same_now f; here = inl (same_now file) }
-
--- what is read, in the words of the calls
-pub bytes_are : (m : MemoryStorage) (file : ℕ) → (now (memory_disk m) file).bytes ≡ bytes_after file (first_bytes m.start.items file) m.past.items
-bytes_are m file = replayed_bytes m.calls file (first_file m.start.items file) m.past.items m.numbered
+  does_stays = record { past = λ m le. same_at m; others = λ f not. same_now f; here = inl (same_now file) }
 
 -- The answer of a whole call.
 
@@ -144,7 +163,7 @@ called_failed old new file rel r result is_err err counts = record {
   spent = λ all. ((counts.spent all).0, err);
   no_fewer = counts.no_fewer;
   cause = λ is. counts.cause is_err;
-  does = λ told. does_nothing old new file rel result counts.start counts.past counts.later err;
+  does = λ told. does_nothing old new file rel result counts.same.start counts.same.past err;
 }
 
 -- it changed nothing
@@ -156,13 +175,12 @@ called_stays {T} old new file u v counts = record {
   spent = λ all. let is = (counts.spent all).1 in cc;
   no_fewer = counts.no_fewer;
   cause = λ is. cc;
-  does = λ told. does_stays old new file (λ a b. a ≡ b) (Ok v) counts.start counts.past counts.later;
+  does = λ told. does_stays old new file (λ a b. a ≡ b) (Ok v) counts.same.start counts.same.past;
 }
 
 -- it did its step
 pub called_step : {T U : Type 0} (old mid new : MemoryStorage) (file : ℕ) (step : File → File) (rel : File → File → Type 0) (u : U) (v : T) → Counted {T = U} (Ok u) old mid → SameBut mid new
-    → AddsCall mid.calls file (bytes_after file (first_bytes mid.start.items file) mid.past.items) step mid.past.items new.past.items
-    → ((f : File) → rel f (step f)) → Called {T = T} file rel (Ok v) (memory_disk old) (memory_disk new)
+    → AddsCall mid.calls file step mid.past.items new.past.items → ((f : File) → rel f (step f)) → Called {T = T} file rel (Ok v) (memory_disk old) (memory_disk new)
 called_step old mid new file step rel u v counts same adds did = record {
   told = refl;
   later = omega (arith, counts.later, same.calls);
@@ -170,19 +188,19 @@ called_step old mid new file step rel u v counts same adds did = record {
   spent = λ all. let is = (counts.spent all).1 in cc;
   no_fewer = omega (arith, counts.no_fewer, same.faults);
   cause = λ is. cc;
-  does = λ told. ⊎_elim (λ room. does_step old new file step rel (Ok v) (same.start ∙ counts.start) (same.calls ∙ counts.counted room) (whole room) did) (λ all. let is = (counts.spent all).1 in cc) (split old.calls);
+  does = λ told. ⊎_elim (λ room. does_step old new file step rel (Ok v) (same.start ∙ counts.same.start) (same.calls ∙ counts.counted room) whole did) (λ all. let is = (counts.spent all).1 in cc) (split old.calls);
 }
   where
     split : (c : ℕ) → (c < last) ⊎ (last ≤ c)
     split c = grind arith
 
-    whole : old.calls < last → AddsCall new.calls file (bytes_after file (first_bytes old.start.items file) old.past.items) step old.past.items new.past.items
-    whole room = record {
+    whole : AddsCall new.calls file step old.past.items new.past.items
+    whole = record {
       call = adds.call;
-      is = adds.is ∙ ap (λ (l : List Call). l ++ adds.call ∷ []) counts.past;
+      is = adds.is ∙ ap (λ (l : List Call). l ++ adds.call ∷ []) counts.same.past;
       number_is = adds.number_is ∙ sym same.calls;
       file_is = adds.file_is;
-      step_is = λ f has. adds.step_is f (has ∙ cc (ap (λ (l : List FileBytes). bytes_after file (first_bytes l file) old.past.items) counts.start, ap (λ (l : List Call). bytes_after file (first_bytes mid.start.items file) l) counts.past));
+      step_is = adds.step_is;
     }
 
 -- there was no memory to note it
@@ -195,36 +213,24 @@ called_starved old mid low new file rel u result err counted same past fault sam
   spent = λ all. let is = (counted.spent all).1 in cc;
   no_fewer = omega (arith, same_faults, same.faults, fault.no_fewer);
   cause = λ is. omega (arith, same_faults, same.faults, fault.cause);
-  does = λ told. does_nothing old new file rel result (fault.start ∙ same.start ∙ counted.start) (fault.past ∙ past ∙ counted.past) (omega (arith, counted.later, same.calls, fault.calls)) err;
+  does = λ told. does_nothing old new file rel result (fault.same.start ∙ same.start ∙ counted.same.start) (fault.same.past ∙ past ∙ counted.same.past) err;
 }
 
--- the same records, made in two ways
-pub write_made : (after v now_bytes : List ℕ) (at : ℕ) (bytes : List ℕ) (f : File) → after ≡ written at bytes now_bytes → v ≡ bytes → f.bytes ≡ now_bytes → write_step_raw after at v f ≡ write_step at bytes f
-write_made after v now_bytes at bytes f a b e =
-    let same : after ≡ written at bytes f.bytes = a ∙ ap (λ (l : List ℕ). written at bytes l) (sym e) in
-    ap (λ (l : List ℕ). write_step_raw l at v f) same ∙ ap (λ (l : List ℕ). write_step_raw (written at bytes f.bytes) at l f) b
+-- What is read.
 
-pub cut_made : (after now_bytes : List ℕ) (len : ℕ) (f : File) → after ≡ take len now_bytes → f.bytes ≡ now_bytes → cut_step_raw after len f ≡ cut_step len f
-cut_made after now_bytes len f a e = ap (λ (l : List ℕ). cut_step_raw l len f) (a ∙ ap (λ (l : List ℕ). take len l) (sym e))
+-- what is held after the count is what was read before it
+pub counted_bytes : {U : Type 0} (old new : MemoryStorage) (file : ℕ) (r : Result U Failed) → Counted r old new → bytes_in (held new.files.items) file ≡ contents (memory_disk old) file
+counted_bytes old new file r counted = ap (λ (l : List FileBytes). bytes_in (held l) file) counted.same.files ∙ kept_bytes old file
 
-pub sync_made : (after now_bytes : List ℕ) (f : File) → after ≡ now_bytes → f.bytes ≡ now_bytes → sync_step_raw after ≡ sync_step f
-sync_made after now_bytes f a e = ap (λ (l : List ℕ). sync_step_raw l) (a ∙ sym e)
+-- what the walk over the files found is that
+pub read_bytes : (file : ℕ) (walked files : List FileBytes) (bytes want : List ℕ) → bytes ≡ bytes_in (held walked) file → walked ≡ files → bytes_in (held files) file ≡ want → bytes ≡ want
+read_bytes file walked files bytes want is same e = is ∙ ap (λ (l : List FileBytes). bytes_in (held l) file) same ∙ e
 
-pub counted_bytes : {U : Type 0} (old new : MemoryStorage) (file : ℕ) (r : Result U Failed) → Counted r old new → bytes_after file (first_bytes new.start.items file) new.past.items ≡ (now (memory_disk old) file).bytes
-counted_bytes old new file r counted =
-    cc (bytes_are old file, ap (λ (l : List FileBytes). bytes_after file (first_bytes l file) new.past.items) counted.start, ap (λ (l : List Call). bytes_after file (first_bytes old.start.items file) l) counted.past)
-
-pub newest_pushed : (b : Bool) (past : List Call) (call : Call) (new : List Call) (calls : ℕ) → new ≡ (if b then past ++ call ∷ [] else past) → newest past ≤ calls → call.number ≡ calls → newest new ≤ calls
-newest_pushed true past call new calls is low one = omega (arith, ap newest is, newest-push past call)
-newest_pushed false past call new calls is low one = omega (arith, ap newest is)
-
-pub read_bytes : (file : ℕ) (start start' : List FileBytes) (past past' : List Call) (bytes want : List ℕ) → bytes ≡ bytes_after file (first_bytes start' file) past' → start' ≡ start → past' ≡ past → bytes_after file (first_bytes start file) past ≡ want → bytes ≡ want
-read_bytes file start start' past past' bytes want is a b e =
-    cc (ap (λ (l : List FileBytes). bytes_after file (first_bytes l file) past') a, ap (λ (l : List Call). bytes_after file (first_bytes start file) l) b)
-
+-- a read from the end on
 pub fits_none : (bytes want buf : List ℕ) (at : ℕ) → bytes ≡ want → length bytes ≤ at → Fills want at buf 0 buf
 fits_none bytes want buf at same le = record { count = omega (arith, ap length same, le); bytes_are = refl }
 
+-- a read before it
 pub fits_some : (bytes want rest buf copied : List ℕ) (at n : ℕ) → bytes ≡ want → rest ≡ drop at bytes → n ≡ min (length rest) (length buf) → copied ≡ take n rest → Fills want at buf n (copied ++ drop n buf)
 fits_some bytes want rest buf copied at n same rest_is n_is copied_is =
     let tail : rest ≡ drop at want = rest_is ∙ ap (λ (l : List ℕ). drop at l) same in
@@ -232,3 +238,30 @@ fits_some bytes want rest buf copied at n same rest_is n_is copied_is =
       count = omega (arith, n_is, ap length tail, length-drop at want);
       bytes_are = ap (λ (l : List ℕ). l ++ drop n buf) (copied_is ∙ ap (λ (l : List ℕ). take n l) tail);
     }
+
+-- What a storage keeps of itself.
+
+-- the invariant of a storage, over its parts
+pub record Holds (start : List FileBytes) (past : List Call) (files : List FileBytes) (calls : ℕ) : Type 0 where
+  pub numbered : newest past ≤ calls
+  pub replays : after_calls (held start) past ≡ held files
+  pub within : all_fit (held start) past ≡ true
+
+-- it stands once a call was noted and done
+pub holds_more : (start : List FileBytes) (past more : List Call) (files done : List FileBytes) (calls : ℕ) (call : Call) → Holds start past files calls → more ≡ past ++ call ∷ [] → call.number ≡ calls
+    → fits call.file call.kind (held files) ≡ true → held done ≡ after_call call.file call.kind (held files) → Holds start more done calls
+holds_more start past more files done calls call holds is number fit made = record {
+  numbered = omega (arith, ap newest is, newest-push past call, holds.numbered, number);
+  replays = ap (λ (l : List Call). after_calls (held start) l) is ∙ after_calls-push (held start) past call ∙ ap (λ (l : List (ℕ × List ℕ)). after_call call.file call.kind l) holds.replays ∙ sym made;
+  within = ap (λ (l : List Call). all_fit (held start) l) is ∙ all_fit-push (held start) past call holds.within (ap (λ (l : List (ℕ × List ℕ)). fits call.file call.kind l) holds.replays ∙ fit);
+}
+
+-- it stands whether there was memory to note a call that does nothing to the bytes, or not
+pub holds_either : (noted : Bool) (start : List FileBytes) (past more : List Call) (files : List FileBytes) (calls : ℕ) (call : Call) → Holds start past files calls → more ≡ (if noted then past ++ call ∷ [] else past) → call.number ≡ calls
+    → fits call.file call.kind (held files) ≡ true → held files ≡ after_call call.file call.kind (held files) → Holds start more files calls
+holds_either true start past more files calls call holds is number fit made = holds_more start past more files files calls call holds is number fit made
+holds_either false start past more files calls call holds is number fit made = subst (λ (l : List Call). Holds start l files calls) (sym is) holds
+
+-- the test of a write's place
+pub fits_within : (at : ℕ) (bytes : List ℕ) → at ≤ length bytes → nat_le at (length bytes) ≡ true
+fits_within at bytes le = grind (arith, nat_tests)

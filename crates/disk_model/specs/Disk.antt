@@ -4,6 +4,7 @@ use Rattle.fault_counts.specs.Rose.{last, Rose}
 use Rattle.disk_model.specs.declared.storage.Failed.{Failed}
 use Rattle.disk_model.specs.File.{File}
 
+-- what a storage tells: its counts, and each file at each moment so far
 pub record Disk : Type 0 where
   -- whether the contents are told
   pub told : Bool

@@ -7,6 +7,7 @@ pub data Step : Type 0 where
   Wrote : (at : ℕ) (bytes : List ℕ) → Step
   CutTo : (len : ℕ) → Step
 
+-- a file at a moment
 pub record File : Type 0 where
   -- its contents: what a read gives
   pub bytes : List ℕ

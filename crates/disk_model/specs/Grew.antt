@@ -2,6 +2,7 @@
 use Rattle.std.specs.Prelude.{◌≡◌, ◌≤◌, ℕ, List, length, take}
 use Rattle.disk_model.specs.File.{Step, after_steps, IsMeant, IsWritten, least}
 
+-- bytes were only added at the end since the sync
 pub record OnlyGrew (synced : List ℕ) (steps : List Step) (bytes : List ℕ) : Type 0 where
   -- with all of it done whole, the file is this
   pub whole : after_steps synced steps ≡ bytes

@@ -1,9 +1,14 @@
 pub mod File
 pub mod Disk
 pub mod Grew
+pub mod Held
 pub mod Past
 pub mod Memory
 pub mod Start
 pub mod Counting
+pub mod Choosing
+pub mod Fresh
+pub mod Veil
+pub mod Told
 pub mod Object
 pub use Rattle.fault_counts.specs.Rose

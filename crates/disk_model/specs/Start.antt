@@ -1,11 +1,12 @@
-use Rattle.std.specs.Prelude.{ℕ, List, [], ◌∷◌, ◌==◌, if◌then◌else◌}
-use Rattle.disk_model.specs.declared.past.FileBytes.{FileBytes}
+-- What a storage in memory began with. (This project.)
+use Rattle.std.specs.Prelude.{ℕ, List, []}
 use Rattle.disk_model.specs.File.{File}
+use Rattle.disk_model.specs.Held.{bytes_in}
+
+-- a file with these bytes, with nothing pending
+abbrev pub settled : List ℕ → File
+settled bytes = record { bytes = bytes; synced = bytes; steps = [] }
 
 -- what a file had at first
-abbrev pub first_bytes : List FileBytes → ℕ → List ℕ
-first_bytes [] file = []
-first_bytes (given ∷ start) file = if given.file == file then given.bytes.items else first_bytes start file
-
-abbrev pub first_file : List FileBytes → ℕ → File
-first_file start file = record { bytes = first_bytes start file; synced = first_bytes start file; steps = [] }
+abbrev pub first_file : List (ℕ × List ℕ) → ℕ → File
+first_file start file = settled (bytes_in start file)

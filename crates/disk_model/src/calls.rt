@@ -1,51 +1,18 @@
-ghost use Rattle.std.specs.Prelude.{◌≡◌, ◌⊎◌, ◌≤◌, ◌<◌, ◌+◌, ◌-◌, ◌∷◌, ◌++◌, [], ℕ, List, min, length, take, drop, OnOk, OnErr, IfOk, IsErr, true};
-ghost use Rattle.disk_model.specs.File.{written};
+//! The device calls on a storage in memory. A call is counted, it may be one that fails, and what it does is noted.
+ghost use Rattle.std.specs.Prelude.{◌≡◌, ◌⊎◌, ◌≤◌, ◌<◌, ◌+◌, ◌-◌, ◌∷◌, ◌++◌, [], ℕ, List, min, length, take, drop, OnOk, OnErr, IfOk, IfSome, IsErr, IsTrue, true};
 ghost use Rattle.fault_counts.specs.Rose.{last};
-ghost use Rattle.disk_model.specs.Past.{newest, bytes_after, AddsCall, write_step, cut_step, sync_step};
-ghost use Rattle.disk_model.specs.Start.{first_bytes};
+ghost use Rattle.disk_model.specs.File.{Stays, Writes, Cuts, Syncs};
+ghost use Rattle.disk_model.specs.Disk.{Called, contents, Fills};
+ghost use Rattle.disk_model.specs.Held.{held, bytes_in};
+ghost use Rattle.disk_model.specs.Past.{newest, after_calls, all_fit, AddsCall, write_step, cut_step, sync_step};
+ghost use Rattle.disk_model.specs.Told.{GivesLength, GivesBytes};
 ghost use Rattle.disk_model.specs.Memory.{memory_disk};
-ghost use Rattle.disk_model.specs.Counting.{Counted, Faulted, SameBut};
+ghost use Rattle.disk_model.specs.Counting.{Notes, Counted, Faulted, SameBut, FailsExactly};
 
-use crate::past::{Call, FileBytes, Kind};
+use crate::files::{bytes_of, cut, put};
+use crate::past::{Call, Kind};
 use crate::{Failed, MemoryStorage, Storage};
-use std::alloc::{AllocError, Global};
-
-// The file's bytes as they are now.
-fn bytes_now<'a>(start: &'a [FileBytes], past: &'a [Call], file: u32) -> &'a [u8]
-    ensures { result.now ≡ bytes_after file (first_bytes start.now file) past.now }
-{
-    let mut bytes = first_of(start, file);
-    for call in past {
-        if call.file == file {
-            bytes = &call.after;
-        }
-    }
-    bytes
-}
-
-fn first_of<'a>(start: &'a [FileBytes], file: u32) -> &'a [u8]
-    ensures { result.now ≡ first_bytes start.now file }
-{
-    for given in start {
-        if given.file == file {
-            return &given.bytes;
-        }
-    }
-    &[]
-}
-
-// The bytes with these over them at a place.
-fn written_bytes(alloc: Global, old: &[u8], at: usize, bytes: &[u8]) -> Result<Vec<u8>, AllocError>
-    requires { at ≤ length old.now }
-    ensures { IfOk result (λ next. next.items ≡ written at bytes.now old.now) }
-{
-    let mut next = old[..at].to_vec(alloc)?;
-    next.extend_from_slice(bytes)?;
-    if bytes.len() < old.len() - at {
-        next.extend_from_slice(&old[at + bytes.len()..])?;
-    }
-    Ok(next)
-}
+use std::alloc::AllocError;
 
 impl MemoryStorage {
     // One call is counted. It fails where its number was given, or where there are no numbers left.
@@ -66,63 +33,61 @@ impl MemoryStorage {
     fn failed(&mut self) -> Result<(), Failed>
         ensures err { IsErr result }
         ensures faulted { Faulted self.old self.new }
+        ensures starved { self.new.starved ≡ self.old.starved }
     {
         self.faults = self.faults.saturating_add(1);
         Err(Failed)
     }
+
+    // There was no memory to note a call that was counted.
+    fn no_memory(&mut self) -> Result<(), Failed>
+        requires { self.old.starved < self.old.calls }
+        ensures err { IsErr result }
+        ensures faulted { Faulted self.old self.new }
+        ensures starved { self.new.starved ≡ self.old.starved + 1 }
+    {
+        self.starved += 1;
+        self.failed()
+    }
 }
 
 impl MemoryStorage {
-    fn try_write(&mut self, file: u32, at: usize, bytes: &[u8]) -> Result<(), AllocError>
-        requires { at ≤ length (bytes_after file (first_bytes self.old.start.items file) self.old.past.items) }
-        ensures ok { OnOk result (AddsCall self.old.calls file (bytes_after file (first_bytes self.old.start.items file) self.old.past.items) (write_step at bytes.now) self.old.past.items self.new.past.items) }
+    fn try_write(&mut self, file: u32, at: u64, bytes: &[u8]) -> Result<(), AllocError>
+        requires { at ≤ length (bytes_in (held self.old.files.items) file) }
+        ensures ok { OnOk result (Notes file (write_step at bytes.now) self.old self.new) }
         ensures err { OnErr result (self.new.past.items ≡ self.old.past.items) }
         ensures same { SameBut self.old self.new }
     {
-        let after = written_bytes(
-            self.alloc,
-            bytes_now(&self.start, &self.past, file),
-            at,
-            bytes,
-        )?;
-        let kind = Kind::Write(at as u64, bytes.to_vec(self.alloc)?);
-        self.past.push(Call {
-            number: self.calls,
-            file,
-            kind,
-            after,
-        })?;
+        let kind = Kind::Write(at, bytes.to_vec(self.alloc)?);
+        let number = self.calls;
+        self.past.push(Call { number, file, kind })?;
+        if let Err(no_memory) = put(self.alloc, &mut self.files, file, at as usize, bytes) {
+            let _ = self.past.pop();
+            return Err(no_memory);
+        }
         Ok(())
     }
 
-    fn try_cut(&mut self, file: u32, len: usize) -> Result<(), AllocError>
-        requires { len ≤ length (bytes_after file (first_bytes self.old.start.items file) self.old.past.items) }
-        ensures ok { OnOk result (AddsCall self.old.calls file (bytes_after file (first_bytes self.old.start.items file) self.old.past.items) (cut_step len) self.old.past.items self.new.past.items) }
+    fn try_cut(&mut self, file: u32, len: u64) -> Result<(), AllocError>
+        ensures ok { OnOk result (Notes file (cut_step len) self.old self.new) }
         ensures err { OnErr result (self.new.past.items ≡ self.old.past.items) }
         ensures same { SameBut self.old self.new }
     {
-        let after = bytes_now(&self.start, &self.past, file)[..len].to_vec(self.alloc)?;
-        self.past.push(Call {
-            number: self.calls,
-            file,
-            kind: Kind::Cut(len as u64),
-            after,
-        })?;
+        let number = self.calls;
+        let kind = Kind::Cut(len);
+        self.past.push(Call { number, file, kind })?;
+        cut(&mut self.files, file, len as usize);
         Ok(())
     }
 
     fn try_sync(&mut self, file: u32) -> Result<(), AllocError>
-        ensures ok { OnOk result (AddsCall self.old.calls file (bytes_after file (first_bytes self.old.start.items file) self.old.past.items) sync_step self.old.past.items self.new.past.items) }
+        ensures ok { OnOk result (Notes file sync_step self.old self.new) }
         ensures err { OnErr result (self.new.past.items ≡ self.old.past.items) }
         ensures same { SameBut self.old self.new }
     {
-        let after = bytes_now(&self.start, &self.past, file).to_vec(self.alloc)?;
-        self.past.push(Call {
-            number: self.calls,
-            file,
-            kind: Kind::Sync,
-            after,
-        })?;
+        let number = self.calls;
+        let kind = Kind::Sync;
+        self.past.push(Call { number, file, kind })?;
         Ok(())
     }
 }
@@ -130,14 +95,23 @@ impl MemoryStorage {
 impl Storage for MemoryStorage {
     ghost disk = { memory_disk };
 
-    fn len(&mut self, file: u32) -> Result<u64, Failed> {
+    fn len(&mut self, file: u32) -> Result<u64, Failed>
+        ensures called { Called file Stays result (memory_disk self.old) (memory_disk self.new) }
+        ensures value { GivesLength result (memory_disk self.old) file }
+        ensures exactly { FailsExactly result self.old self.new }
+    {
         self.counted()?;
-        Ok(bytes_now(&self.start, &self.past, file).len() as u64)
+        Ok(bytes_of(&self.files, file).len() as u64)
     }
 
-    fn read(&mut self, file: u32, at: u64, buf: &mut [u8]) -> Result<usize, Failed> {
+    fn read(&mut self, file: u32, at: u64, buf: &mut [u8]) -> Result<usize, Failed>
+        ensures called { Called file Stays result (memory_disk self.old) (memory_disk self.new) }
+        ensures value { GivesBytes result (memory_disk self.old) file at buf.old buf.new }
+        ensures count { IfOk result (λ n. n ≤ length buf.old) }
+        ensures exactly { FailsExactly result self.old self.new }
+    {
         self.counted()?;
-        let bytes = bytes_now(&self.start, &self.past, file);
+        let bytes = bytes_of(&self.files, file);
         if at >= bytes.len() as u64 {
             return Ok(0);
         }
@@ -147,27 +121,38 @@ impl Storage for MemoryStorage {
         Ok(n)
     }
 
-    fn write(&mut self, file: u32, at: u64, bytes: &[u8]) -> Result<(), Failed> {
+    fn write(&mut self, file: u32, at: u64, bytes: &[u8]) -> Result<(), Failed>
+        requires { IsTrue (memory_disk self.old).told → at ≤ length (contents (memory_disk self.old) file) }
+        ensures called { Called file (Writes at bytes.now result) result (memory_disk self.old) (memory_disk self.new) }
+        ensures exactly { FailsExactly result self.old self.new }
+    {
         self.counted()?;
-        match self.try_write(file, at as usize, bytes) {
+        match self.try_write(file, at, bytes) {
             Ok(()) => Ok(()),
-            Err(_) => self.failed(),
+            Err(_) => self.no_memory(),
         }
     }
 
-    fn cut(&mut self, file: u32, len: u64) -> Result<(), Failed> {
+    fn cut(&mut self, file: u32, len: u64) -> Result<(), Failed>
+        requires { IsTrue (memory_disk self.old).told → len ≤ length (contents (memory_disk self.old) file) }
+        ensures called { Called file (Cuts len result) result (memory_disk self.old) (memory_disk self.new) }
+        ensures exactly { FailsExactly result self.old self.new }
+    {
         self.counted()?;
-        match self.try_cut(file, len as usize) {
+        match self.try_cut(file, len) {
             Ok(()) => Ok(()),
-            Err(_) => self.failed(),
+            Err(_) => self.no_memory(),
         }
     }
 
-    fn sync(&mut self, file: u32) -> Result<(), Failed> {
+    fn sync(&mut self, file: u32) -> Result<(), Failed>
+        ensures called { Called file (Syncs result) result (memory_disk self.old) (memory_disk self.new) }
+        ensures exactly { FailsExactly result self.old self.new }
+    {
         self.counted()?;
         match self.try_sync(file) {
             Ok(()) => Ok(()),
-            Err(_) => self.failed(),
+            Err(_) => self.no_memory(),
         }
     }
 

@@ -1,15 +1,12 @@
-use Rattle.std.proofs.Common.{ℕ, List, ◌≤◌, length, refl, sym, subst, rules}
-use Rattle.disk_model.proofs.Replay.{called_failed, called_step, called_starved, counted_bytes}
+use Rattle.std.proofs.Common.{refl, rules}
+use Rattle.disk_model.proofs.Replay.{called_failed, called_step, called_starved}
 use Rattle.disk_model.proofs.calls.MemoryStorageStorage.cut.Goals as goal
 
-pub returns-in_err-counted : goal.returns-in_err-counted
-returns-in_err-counted c = record { called = called_failed _ _ _ _ c.counted.result _ (search rules) c.from_residual.ensures.0 c.counted.ensures.counts }
+pub returns-in_err-counted-clause-called : goal.returns-in_err-counted-clause-called
+returns-in_err-counted-clause-called c = called_failed _ _ _ _ c.counted.result _ (search rules) c.from_residual.ensures.0 c.counted.ensures.counts
 
-pub try_cut-requires : goal.try_cut-requires
-try_cut-requires c = subst (λ (l : List ℕ). c.args.len ≤ length l) (sym (counted_bytes _ _ c.args.file _ c.in_ok-counted.ensures.counts)) (c.requires refl)
+pub returns-in-Ok-clause-called : goal.returns-in-Ok-clause-called
+returns-in-Ok-clause-called c = called_step _ c.counted.new.self _ _ _ _ _ _ c.in_ok-counted.ensures.counts c.try_cut.ensures.same c.in-Ok.ensures.ok (λ f. record { synced = refl; steps = refl; ok = search rules; err = search rules })
 
-pub returns-in-Ok : goal.returns-in-Ok
-returns-in-Ok c = record { called = called_step _ c.counted.new.self _ _ _ _ _ _ c.in_ok-counted.ensures.counts c.try_cut.ensures.same c.in-Ok.ensures.ok (λ f. record { synced = refl; steps = refl; ok = search rules; err = search rules }) }
-
-pub returns-in-Err : goal.returns-in-Err
-returns-in-Err c = record { called = called_starved _ c.counted.new.self c.try_cut.new.self _ _ _ _ _ c.failed.ensures.err c.in_ok-counted.ensures.counts c.try_cut.ensures.same c.in-Err.ensures.err c.failed.ensures.faulted c.in_ok-counted.ensures.same }
+pub returns-in-Err-clause-called : goal.returns-in-Err-clause-called
+returns-in-Err-clause-called c = called_starved _ c.counted.new.self c.try_cut.new.self _ _ _ _ _ c.no_memory.ensures.err c.in_ok-counted.ensures.counts c.try_cut.ensures.same c.in-Err.ensures.err c.no_memory.ensures.faulted c.in_ok-counted.ensures.same

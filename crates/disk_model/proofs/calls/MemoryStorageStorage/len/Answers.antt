@@ -1,4 +1,4 @@
-use Rattle.std.proofs.Common.{ap, ◌∙◌, length, rules}
+use Rattle.std.proofs.Common.{ap, length, rules}
 use Rattle.disk_model.proofs.Replay.{called_failed, called_stays, counted_bytes, read_bytes}
 use Rattle.disk_model.proofs.calls.MemoryStorageStorage.len.Goals as goal
 
@@ -9,4 +9,4 @@ pub returns-clause-called : goal.returns-clause-called
 returns-clause-called c = called_stays _ _ _ _ _ c.in_ok-counted.ensures.counts
 
 pub returns-clause-value : goal.returns-clause-value
-returns-clause-value c = λ told. ap length (read_bytes _ _ _ _ _ _ _ c.bytes_now.ensures c.deref.ensures.value c.deref-2.ensures.value (counted_bytes _ _ _ _ c.in_ok-counted.ensures.counts))
+returns-clause-value c = λ told. ap length (read_bytes _ _ _ _ _ c.bytes_of.ensures c.deref.ensures.value (counted_bytes _ _ _ _ c.in_ok-counted.ensures.counts))

@@ -1,4 +1,4 @@
-use Rattle.std.proofs.Common.{ap, ◌∙◌, length, rules, arith}
+use Rattle.std.proofs.Common.{rules, arith}
 use Rattle.std.proofs.lemmas.List.{take_rest}
 use Rattle.std.proofs.lemmas.Grind.{common_steps}
 use Rattle.disk_model.proofs.Replay.{called_failed, called_stays, counted_bytes, read_bytes, fits_none, fits_some}
@@ -15,10 +15,10 @@ returns-clause-called c = called_stays _ _ _ _ _ c.in_ok-counted.ensures.counts
 
 pub returns-then-at-bytes-clause-value : goal.returns-then-at-bytes-clause-value
 returns-then-at-bytes-clause-value c = λ told.
-    let same = read_bytes _ _ _ _ _ _ _ c.bytes_now-bytes.ensures c.deref.ensures.value c.deref-2.ensures.value (counted_bytes _ _ _ _ c.in_ok-counted.ensures.counts) in
+    let same = read_bytes _ _ _ _ _ c.bytes_of-bytes.ensures c.deref.ensures.value (counted_bytes _ _ _ _ c.in_ok-counted.ensures.counts) in
     fits_none _ _ _ _ same c.if-at-bytes.true
 
 pub returns-clause-value : goal.returns-clause-value
 returns-clause-value c = λ told.
-    let same = read_bytes _ _ _ _ _ _ _ c.bytes_now-bytes.ensures c.deref.ensures.value c.deref-2.ensures.value (counted_bytes _ _ _ _ c.in_ok-counted.ensures.counts) in
-    fits_some _ _ _ c.args.buf.now c.copy_from_slice.new.self c.args.at c.min-n.result same (take_rest c.bytes_now-bytes.result.now c.args.at) (grind (arith, common_steps)) (search rules)
+    let same = read_bytes _ _ _ _ _ c.bytes_of-bytes.ensures c.deref.ensures.value (counted_bytes _ _ _ _ c.in_ok-counted.ensures.counts) in
+    fits_some _ _ _ c.args.buf.now c.copy_from_slice.new.self c.args.at c.min-n.result same (take_rest c.bytes_of-bytes.result.now c.args.at) (grind (arith, common_steps)) (search rules)
