@@ -1,5 +1,5 @@
 -- Lemmas on the checksum: the register is linear, zero bits leave it as it was, and bytes may go in together.
-use Rattle.std.proofs.Common.{◌≡◌, ℕ, zero, suc, ◌+◌, ◌-◌, ◌*◌, ◌/◌, ◌%◌, ◌^◌, ◌<◌, ◌≤◌, ◌==◌, Bool, true, false, ◌&&◌, if◌then◌else◌, List, [], ◌∷◌, ◌++◌, length, get_or, take, drop, bit_xor, bit_and, refl, sym, ◌∙◌, ap, inl, inr, lit<, arith}
+use Rattle.std.proofs.Common.{◌≡◌, ℕ, zero, suc, ◌+◌, ◌-◌, ◌*◌, ◌/◌, ◌%◌, ◌^◌, ◌<◌, ◌≤◌, ◌==◌, true, false, ◌&&◌, if◌then◌else◌, List, [], ◌∷◌, ◌++◌, length, get_or, take, drop, bit_xor, bit_and, refl, sym, ◌∙◌, ap, inl, inr, lit<, arith}
 use Rattle.std.proofs.lemmas.Bool.{and_parts, eqb-true, cases_lt}
 use Rattle.std.proofs.lemmas.List.{drop-drop, drop_more, length-drop, length-take-le, get_or-take, get_or-drop, get_or_past, take-append-drop}
 use Rattle.std.proofs.lemmas.Nat.{xor_shr, xor_block, xor_comm, pow_pos, shr_split, mod_below, and_mask}
@@ -13,18 +13,22 @@ use Rattle.frame_codec.specs.Tables.{shifted_bytes, is_table_from, are_tables_fr
 
 -- ---- the laws of exclusive or that the register needs
 
+-- equal parts, in a function of two
 both : {B : Type 0} (f : ℕ → B → ℕ) (a : ℕ) (b : B) (c : ℕ) (d : B) → a ≡ c → b ≡ d → f a b ≡ f c d
 both f a b c d left right = ap (λ n. f n b) left ∙ ap (f c) right
 
+-- parities may be added in either order
 parity_assoc : (x y z : ℕ) → ((x + y) % 2 + z) % 2 ≡ (x + (y + z) % 2) % 2
 parity_assoc x y z = omega arith
 
+-- exclusive or is associative, bit by bit
 pub xor_assoc : (a b c : ℕ) → bit_xor (bit_xor a b) c ≡ bit_xor a (bit_xor b c)
 xor_assoc a b c = same_from_bits _ _ (λ i.
     bit_at_xor (bit_xor a b) c i ∙ ap (λ n. (n + bit_at c i) % 2) (bit_at_xor a b i)
     ∙ parity_assoc (bit_at a i) (bit_at b i) (bit_at c i)
     ∙ sym (bit_at_xor a (bit_xor b c) i ∙ ap (λ n. (bit_at a i + n) % 2) (bit_at_xor b c i)))
 
+-- the middle two of four change places
 pub xor_swap : (a b c d : ℕ) → bit_xor (bit_xor a b) (bit_xor c d) ≡ bit_xor (bit_xor a c) (bit_xor b d)
 xor_swap a b c d =
     xor_assoc a b (bit_xor c d)
@@ -50,6 +54,7 @@ xor_high k high low lt =
 abbrev taken : ℕ → ℕ
 taken low = if low == 1 then polynomial else 0
 
+-- one step as one exclusive or
 shifted-is : (r : ℕ) → shifted r ≡ bit_xor (r / 2) (taken (r % 2))
 shifted-is r =
     elim (r % 2 == 1) as (λ b. (if b then bit_xor (r / 2) polynomial else r / 2) ≡ bit_xor (r / 2) (if b then polynomial else 0)) [
@@ -57,6 +62,7 @@ shifted-is r =
       | false ↦ sym (xor_zero_r (r / 2))
     ]
 
+-- what is taken off follows the parity
 taken-sum : (x y : ℕ) → x < 2 → y < 2 → taken ((x + y) % 2) ≡ bit_xor (taken x) (taken y)
 taken-sum zero zero p q = refl
 taken-sum zero (suc zero) p q = refl
@@ -66,6 +72,7 @@ taken-sum zero (suc (suc y)) p q = absurd (omega arith)
 taken-sum (suc zero) (suc (suc y)) p q = absurd (omega arith)
 taken-sum (suc (suc x)) y p q = absurd (omega arith)
 
+-- the lowest bit of an exclusive or
 lowest-xor : (a b : ℕ) → bit_xor a b % 2 ≡ (a % 2 + b % 2) % 2
 lowest-xor a b =
     sym (bit_at_lowest (bit_xor a b)) ∙ bit_at_xor a b 0
@@ -81,10 +88,12 @@ shifted-xor a b =
 
 -- ---- so many bits
 
+-- so many steps are linear
 pub shifted_by-xor : (n a b : ℕ) → shifted_by n (bit_xor a b) ≡ bit_xor (shifted_by n a) (shifted_by n b)
 shifted_by-xor zero a b = refl
 shifted_by-xor (suc n) a b = ap (shifted_by n) (shifted-xor a b) ∙ shifted_by-xor n (shifted a) (shifted b)
 
+-- steps follow steps
 pub shifted_by-add : (m n r : ℕ) → shifted_by (m + n) r ≡ shifted_by n (shifted_by m r)
 shifted_by-add zero n r =
     let e : 0 + n ≡ n = omega arith in
@@ -93,6 +102,7 @@ shifted_by-add (suc m) n r =
     let e : suc m + n ≡ suc (m + n) = omega arith in
     ap (λ k. shifted_by k r) e ∙ shifted_by-add m n (shifted r)
 
+-- an even register is halved
 shifted-even : (r half : ℕ) → r ≡ half * 2 → shifted r ≡ half
 shifted-even r half e =
     let low : r % 2 ≡ 0 = omega arith in
@@ -106,6 +116,7 @@ shifted_by-zeros (suc k) high =
     let e : high * 2 ^ suc k ≡ high * 2 ^ k * 2 = rw pow-suc (omega arith) in
     ap (shifted_by k) (shifted-even (high * 2 ^ suc k) (high * 2 ^ k) e) ∙ shifted_by-zeros k high
 
+-- zero bits leave first, and then some of the rest
 shifted_by-high : (k n high : ℕ) → shifted_by (k + n) (high * 2 ^ k) ≡ shifted_by n high
 shifted_by-high k n high = shifted_by-add k n (high * 2 ^ k) ∙ ap (shifted_by n) (shifted_by-zeros k high)
 
@@ -119,6 +130,7 @@ shifted_by-parts k n r =
 
 -- ---- the tables
 
+-- each entry of a right table is right
 is_table_from-at : (count i : ℕ) (entries : List ℕ) (k : ℕ) → is_table_from count i entries ≡ true → k < length entries → get_or entries k 0 ≡ shifted_bytes count (i + k)
 is_table_from-at count i [] k right lt = absurd (omega arith)
 is_table_from-at count i (entry ∷ entries) zero right lt =
@@ -128,6 +140,7 @@ is_table_from-at count i (entry ∷ entries) (suc k) right lt =
     let e : suc i + k ≡ i + suc k = omega arith in
     is_table_from-at count (suc i) entries k (and_parts (entry == shifted_bytes count i) (is_table_from count (suc i) entries) right).1 (omega arith) ∙ ap (shifted_bytes count) e
 
+-- each of right tables is right
 are_tables_from-at : (count : ℕ) (tables : List (List ℕ)) (k : ℕ) → are_tables_from count tables ≡ true → k < length tables
     → (length (get_or tables k []) ≡ 256) × (is_table_from (count + k) 0 (get_or tables k []) ≡ true)
 are_tables_from-at count [] k right lt = absurd (omega arith)
@@ -156,6 +169,7 @@ entry-right tables above byte right a b =
 
 -- ---- bytes
 
+-- bytes follow bytes
 pub register-append : (r : ℕ) (front back : List ℕ) → register r (front ++ back) ≡ register (register r front) back
 register-append r [] back = refl
 register-append r (byte ∷ front) back = register-append (shifted_by 8 (bit_xor r byte)) front back
@@ -165,6 +179,7 @@ abbrev number_of : List ℕ → ℕ
 number_of [] = 0
 number_of (byte ∷ bytes) = number_of bytes * 256 + byte
 
+-- a low part that leaves first may go in with the high part
 number_step : (k n r low high : ℕ) → low < 2 ^ k
     → shifted_by n (bit_xor (shifted_by k (bit_xor r low)) high) ≡ shifted_by (k + n) (bit_xor r (high * 2 ^ k + low))
 number_step k n r low high lt =
@@ -183,6 +198,7 @@ register-number r (byte ∷ bytes) small =
     ∙ number_step 8 (8 * length bytes) r byte (number_of bytes) (small 0)
     ∙ ap (λ n. shifted_by n (bit_xor r (number_of bytes * 256 + byte))) e
 
+-- the number of eight bytes is what the code reads
 number_of-word : (bytes : List ℕ) → length bytes ≡ 8 → number_of bytes ≡ from_le_bytes w64 bytes
 number_of-word (a ∷ b ∷ c ∷ d ∷ e ∷ f ∷ g ∷ h ∷ []) long = omega arith
 number_of-word [] long = absurd (omega arith)
@@ -231,6 +247,7 @@ next_looked_up whole sum count r next entry so_far at looked_up =
 
 -- ---- the loops
 
+-- where a word of the bytes stands
 drop-chunk : (count place : ℕ) (bytes : List ℕ) → place < count → get_or (first_chunks 8 count bytes) place [] ≡ take 8 (drop (8 * place) bytes)
 drop-chunk zero place bytes lt = absurd (omega arith)
 drop-chunk (suc count) zero bytes lt = refl
@@ -239,6 +256,7 @@ drop-chunk (suc count) (suc place) bytes lt =
     drop-chunk count place (drop 8 bytes) (omega arith)
     ∙ ap (take 8) (drop-drop (8 * place) 8 bytes ∙ ap (λ n. drop n bytes) e)
 
+-- a turn of the loop over words
 pub word_more : (r place number after : ℕ) (bytes : List ℕ) → place < length bytes / 8 → ((k : ℕ) → get_or bytes k 0 < 256)
     → number ≡ from_le_bytes w64 (get_or (first_chunks 8 (length bytes / 8) bytes) place []) → after ≡ shifted_bytes 8 (bit_xor number r)
     → register after (drop (8 * (place + 1)) bytes) ≡ register r (drop (8 * place) bytes)
@@ -260,6 +278,7 @@ word_more r place number after bytes lt small read stepped =
     ∙ sym stepped)
     rest)
 
+-- a turn of the loop over the bytes behind them
 pub byte_more : (r place after : ℕ) (bytes : List ℕ) → place < length bytes → after ≡ shifted_bytes 1 (bit_xor r (get_or bytes place 0))
     → register after (drop (place + 1) bytes) ≡ register r (drop place bytes)
 unfolding shifted_bytes
@@ -268,6 +287,7 @@ byte_more r place after bytes lt stepped =
 
 -- ---- the checksum
 
+-- the checksum of bytes behind bytes
 pub crc_of-append : (start : ℕ) (front back : List ℕ) → crc_of (crc_of start front) back ≡ crc_of start (front ++ back)
 unfolding crc_of
 crc_of-append start front back =

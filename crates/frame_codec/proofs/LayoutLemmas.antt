@@ -1,5 +1,5 @@
 -- Lemmas on a frame's layout: its header, its front, and what stands where in it.
-use Rattle.std.proofs.Common.{◌≡◌, ℕ, ◌+◌, ◌≤◌, List, [], ◌∷◌, ◌++◌, length, get_or, take, drop, ◌-◌, refl, sym, ◌∙◌, ap, arith, append_assoc, length-append}
+use Rattle.std.proofs.Common.{◌≡◌, ℕ, ◌+◌, List, [], ◌∷◌, ◌++◌, length, get_or, take, drop, ◌-◌, refl, sym, ◌∙◌, ap, arith, append_assoc, length-append}
 use Rattle.std.proofs.lemmas.List.{drop_at, take_rest}
 use Rattle.std.specs.Int.{w32, to_le_bytes}
 use Rattle.frame_codec.specs.Bytes.{le16, le32}
@@ -49,6 +49,7 @@ pub checksum_put : (prev at start sum : ℕ) (event : Event) (old header lent : 
 checksum_put prev at start sum event old header lent at_end is_lent is_header is_sum =
     is_sum ∙ ap (crc_of prev) (take_rest lent start ∙ front_put at start event old header lent at_end is_lent is_header)
 
+-- the frame stands behind the old bytes
 pub frame_put : (prev at sum : ℕ) (event : Event) (old header lent : List ℕ) → lent ≡ old ++ header ++ event.body
     → header ≡ header_of event.kind (size_of event) (at + size_of event) → sum ≡ checksum_of prev at event
     → lent ++ le32 sum ≡ old ++ frame_of prev at event

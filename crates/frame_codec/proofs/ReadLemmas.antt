@@ -1,8 +1,8 @@
 -- Lemmas on reading: what a frame at the front of some bytes says of them, and what they have to say for one to stand there.
-use Rattle.std.proofs.Common.{◌≡◌, ℕ, ◌+◌, ◌-◌, ◌*◌, ◌^◌, ◌<◌, ◌≤◌, ◌==◌, Bool, true, false, List, [], ◌∷◌, ◌++◌, length, get_or, take, drop, refl, sym, ◌∙◌, ap, subst, arith, append_assoc, length-append}
+use Rattle.std.proofs.Common.{◌≡◌, ℕ, ◌+◌, ◌-◌, ◌≤◌, ◌==◌, true, false, List, [], ◌∷◌, ◌++◌, length, get_or, take, drop, refl, sym, ◌∙◌, ap, arith, append_assoc, length-append}
 use Rattle.std.proofs.lemmas.Bool.{both_ways}
 use Rattle.std.proofs.lemmas.Bool.Decides.{Decides-eqb}
-use Rattle.std.proofs.lemmas.List.{take_at, drop_at, take-append-drop, length-take-le, length-drop}
+use Rattle.std.proofs.lemmas.List.{take_at, drop_at, take-append-drop, length-take-le, length-drop, drop-drop}
 use Rattle.std.proofs.lemmas.Nat.{from_le_bytes-to_le_bytes_4}
 use Rattle.std.proofs.lemmas.Slice.Eq.{starts_is}
 use Rattle.std.proofs.Math.Seq.{take-add}
@@ -16,6 +16,7 @@ use Rattle.frame_codec.specs.Read.{Reads}
 use Rattle.frame_codec.proofs.FrameLemmas.{length-le32, length-front_of, length-frame_of}
 use Rattle.frame_codec.proofs.LayoutLemmas.{front_of-header}
 
+-- 19 bytes
 pub length-header_of : (kind size end : ℕ) → length (header_of kind size end) ≡ 19
 unfolding header_of le32 le16
 length-header_of kind size end = refl
@@ -24,25 +25,30 @@ length-header_of kind size end = refl
 abbrev four_at : List ℕ → ℕ → List ℕ
 four_at bytes place = get_or bytes place 0 ∷ get_or bytes (place + 1) 0 ∷ get_or bytes (place + 2) 0 ∷ get_or bytes (place + 3) 0 ∷ []
 
+-- the size stands from byte 9 on
 header_of-size : (kind size end : ℕ) → four_at (header_of kind size end) 9 ≡ le32 size
 unfolding header_of le32 le16
 header_of-size kind size end = refl
 
+-- the type is byte 4
 header_of-kind : (kind size end : ℕ) → get_or (header_of kind size end) 4 0 ≡ kind
 unfolding header_of le32 le16
 header_of-kind kind size end = refl
 
 -- ---- what a frame says of the bytes at whose front it stands
 
+-- a frame is its front and its checksum
 frame_of-parts : (prev at : ℕ) (event : Event) (rest : List ℕ)
     → frame_of prev at event ++ rest ≡ front_of at event ++ (le32 (checksum_of prev at event) ++ rest)
 unfolding frame_of
 frame_of-parts prev at event rest = append_assoc (front_of at event) (le32 (checksum_of prev at event)) rest
 
+-- a frame that stands is there whole
 pub frame_whole : (prev at : ℕ) (bytes : List ℕ) (event : Event) → IsFrameAt prev at bytes event → size_of event ≤ length bytes
 frame_whole prev at bytes event frame =
     omega (arith, ap length frame.stands ∙ length-append (frame_of prev at event) frame.rest, length-frame_of prev at event)
 
+-- a frame begins with its header
 frame_begins : (prev at : ℕ) (bytes : List ℕ) (event : Event) (frame : IsFrameAt prev at bytes event)
     → bytes ≡ header_of event.kind (size_of event) (at + size_of event) ++ (event.body ++ (le32 (checksum_of prev at event) ++ frame.rest))
 frame_begins prev at bytes event frame =
@@ -50,6 +56,7 @@ frame_begins prev at bytes event frame =
     ∙ ap (λ front. front ++ (le32 (checksum_of prev at event) ++ frame.rest)) (front_of-header at event)
     ∙ append_assoc (header_of event.kind (size_of event) (at + size_of event)) event.body (le32 (checksum_of prev at event) ++ frame.rest)
 
+-- the first 19 bytes are the header
 first_header : (prev at : ℕ) (bytes first : List ℕ) (event : Event) → IsFrameAt prev at bytes event → first ≡ take 19 bytes
     → first ≡ header_of event.kind (size_of event) (at + size_of event)
 first_header prev at bytes first event frame is_first =
@@ -113,6 +120,7 @@ starts_rest bytes front begins = (starts_is Decides-eqb bytes front (starts_with
 abbrev read_event : ℕ → ℕ → List ℕ → Event
 read_event kind size bytes = record { kind = kind; body = take (size - 4 - 19) (drop 19 bytes) }
 
+-- it has the size that was read
 read_event-size : (kind size : ℕ) (bytes : List ℕ) → 23 ≤ size → size ≤ length bytes → size_of (read_event kind size bytes) ≡ size
 read_event-size kind size bytes least within =
     omega (arith, length-take-le (size - 4 - 19) (drop 19 bytes) (rw length-drop (omega arith)))
@@ -147,6 +155,8 @@ frame_read prev at kind size end sum bytes header stored tail least within insid
     let summed : sum ≡ checksum_of prev at event = is_sum ∙ ap (crc_of prev) (sym front) in
     let rest : List ℕ = drop (length stored) tail in
     let ends : end ≡ at + size_of event = omega arith in
+    let behind : rest ≡ drop (size - 4 + 4) bytes =
+    ap (λ n. drop n tail) (ap length is_stored ∙ length-le32 sum) ∙ ap (drop 4) is_tail ∙ drop-drop 4 (size - 4) bytes in
     record {
       event = event;
       stands = record {
@@ -163,6 +173,8 @@ frame_read prev at kind size end sum bytes header stored tail least within insid
       body_start = refl;
       body_end = omega arith;
       body = refl;
-      ends = ends;
+      within = omega arith;
+      behind = behind;
+      end = ends;
       crc = summed;
     }

@@ -5,8 +5,8 @@ use Rattle.std.specs.Prelude.{◌≡◌, ◌≤◌, ◌+◌, ℕ, List, ◌∷�
 use Rattle.frame_codec.specs.Bytes.{le16, le32}
 use Rattle.frame_codec.specs.Crc.{crc_of}
 
+-- an event is its type and its body
 pub record Event : Type 0 where
-  -- its type
   pub kind : ℕ
   pub body : List ℕ
 

@@ -1,5 +1,5 @@
 -- What does a read frame say of the bytes that it was read from?
-use Rattle.std.specs.Prelude.{◌≡◌, ◌+◌, ℕ, List, length, slice_range}
+use Rattle.std.specs.Prelude.{◌≡◌, ◌≤◌, ◌+◌, ℕ, List, length, drop, slice_range}
 use Rattle.frame_codec.specs.Frame.{Event, size_of, checksum_of, IsFrameAt}
 use Rattle.frame_codec.specs.declared.read.Frame.{Frame}
 
@@ -11,5 +11,7 @@ pub record Reads (prev at : ℕ) (bytes : List ℕ) (frame : Frame) : Type 0 whe
   pub body_start : frame.body_start ≡ 19
   pub body_end : frame.body_end ≡ 19 + length event.body
   pub body : slice_range bytes frame.body_start frame.body_end ≡ event.body
-  pub ends : frame.end ≡ at + size_of event
+  pub within : frame.body_end + 4 ≤ length bytes
+  pub behind : stands.rest ≡ drop (frame.body_end + 4) bytes
+  pub end : frame.end ≡ at + size_of event
   pub crc : frame.crc ≡ checksum_of prev at event

@@ -1,5 +1,5 @@
 -- When are the checksum's tables right?
-use Rattle.std.specs.Prelude.{ℕ, zero, suc, ◌+◌, ◌*◌, ◌==◌, Bool, true, false, ◌&&◌, List, [], ◌∷◌, length}
+use Rattle.std.specs.Prelude.{ℕ, suc, ◌*◌, ◌==◌, Bool, true, ◌&&◌, List, [], ◌∷◌, length}
 use Rattle.frame_codec.specs.Crc.{shifted_by}
 
 -- the register after so many whole bytes of it have left at its low end

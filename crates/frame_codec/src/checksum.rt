@@ -1,14 +1,14 @@
 //! The checksum that chains frames: a CRC-32 that goes on from an earlier one.
 //!
-//! The register takes one bit a step by its definition (`register`). Here it takes a byte by one look-up, and eight bytes by eight,
-//! since the register of a sum is the sum of the registers.
+//! By its definition (`register`) the register loses one bit a step. Here it loses a byte by one look-up, and eight by eight:
+//! the step is linear, so what the register becomes is the exclusive or of what its bytes become, each from its table.
 ghost use Rattle.std.specs.Prelude.{◌≡◌, ◌<◌, ◌+◌, bit_xor};
 ghost use Rattle.frame_codec.specs.Crc.{crc_of};
 ghost use Rattle.frame_codec.specs.Tables.{shifted_bytes};
 
 use crate::tables::TABLES;
 
-// What a byte becomes when it and the zero bytes above it have left the register.
+// What the register becomes that holds this byte alone, when the byte and so many zero bytes above it have left.
 fn entry(above: usize, byte: usize) -> u32
     requires above { above < 8 }
     requires byte { byte < 256 }
@@ -17,7 +17,7 @@ fn entry(above: usize, byte: usize) -> u32
     TABLES[above][byte]
 }
 
-// The register after one byte.
+// The register after one more byte.
 fn after_byte(register: u32, byte: u8) -> u32
     ensures { result ≡ shifted_bytes 1 (bit_xor register byte) }
 {
@@ -25,7 +25,7 @@ fn after_byte(register: u32, byte: u8) -> u32
     entry(0, (mixed & 0xff) as usize) ^ (mixed >> 8)
 }
 
-// The register after eight bytes, of which the first is the lowest of the word.
+// The register after eight more bytes; `word` is what they are, the first lowest, exclusive or the register before.
 fn after_word(word: u64) -> u32
     ensures { result ≡ shifted_bytes 8 word }
 {

@@ -5,10 +5,12 @@ ghost use Rattle.frame_codec.specs.Frame.{Event, IsFrameAt};
 
 /// A checksum goes on from that of the bytes before: both together have the checksum of the whole.
 pub fn crc_goes_on()
-    ensures { (start : ℕ) (front back : List ℕ) → crc_of (crc_of start front) back ≡ crc_of start (front ++ back) }
+    ensures { (start : ℕ) (front back : List ℕ)
+        → crc_of (crc_of start front) back ≡ crc_of start (front ++ back) }
 {}
 
 /// Two events whose frames stand at one place behind one checksum are one.
 pub fn one_event_at_a_place()
-    ensures { (prev at : ℕ) (bytes : List ℕ) (one other : Event) → IsFrameAt prev at bytes one → IsFrameAt prev at bytes other → one ≡ other }
+    ensures { (prev at : ℕ) (bytes : List ℕ) (one other : Event)
+        → IsFrameAt prev at bytes one → IsFrameAt prev at bytes other → one ≡ other }
 {}

@@ -1,4 +1,4 @@
-//! The checksum's tables: what a byte becomes when it and further zero bytes above it have left the register.
+//! The checksum's tables: what the register becomes that holds one byte, when it and so many zero bytes above it have left.
 //!
 //! Invariant: entry `i` of the table at `above` is `shifted_bytes (above + 1) i` (`are_tables`, which a lemma computes).
 

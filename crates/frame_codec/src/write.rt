@@ -16,8 +16,10 @@ pub fn put_frame(
     out: &mut Vec<u8>,
 ) -> Result<u32, AllocError>
     requires { at + 23 + length body.now ≤ 2147483647 }
-    ensures ok { OnOk result (out.new.items ≡ out.old.items ++ frame_of prev at (record { kind = kind; body = body.now })) }
-    ensures value { IfOk result (λ sum. sum ≡ checksum_of prev at (record { kind = kind; body = body.now })) }
+    ensures ok { OnOk result (out.new.items
+        ≡ out.old.items ++ frame_of prev at (record { kind = kind; body = body.now })) }
+    ensures value { IfOk result (λ sum. sum
+        ≡ checksum_of prev at (record { kind = kind; body = body.now })) }
     ensures err { OnErr result (out.new.items ≡ out.old.items) }
 {
     let start = out.len();

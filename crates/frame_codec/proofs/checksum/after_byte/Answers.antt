@@ -1,5 +1,5 @@
 -- One look-up gives what eight steps give.
-use Rattle.std.proofs.Common.{◌≡◌, ◌/◌, bit_xor, bit_and, ◌∙◌, ap}
+use Rattle.std.proofs.Common.{bit_xor, ◌∙◌, ap}
 use Rattle.frame_codec.specs.Tables.{shifted_bytes}
 use Rattle.frame_codec.proofs.CrcLemmas.{byte_looked_up}
 use Rattle.frame_codec.proofs.checksum.after_byte.Goals as goal

@@ -1,5 +1,5 @@
 -- One look-up more, from the lowest byte up.
-use Rattle.std.proofs.Common.{◌≡◌, ◌/◌, ◌%◌, ℕ, bit_xor, bit_and, refl, sym, ◌∙◌, ap, arith}
+use Rattle.std.proofs.Common.{◌≡◌, ◌/◌, ℕ, bit_xor, bit_and, refl, sym, ◌∙◌, ap, arith}
 use Rattle.frame_codec.specs.Tables.{shifted_bytes}
 use Rattle.frame_codec.proofs.CrcLemmas.{first_looked_up, next_looked_up}
 use Rattle.frame_codec.proofs.checksum.after_word.Goals as goal

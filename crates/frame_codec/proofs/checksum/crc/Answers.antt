@@ -1,5 +1,5 @@
 -- Each step of a loop leaves what all the bytes give as it was.
-use Rattle.std.proofs.Common.{◌≡◌, ◌<◌, ◌+◌, ◌*◌, ◌-◌, bit_xor, ◌/◌, ◌^◌, drop, length, get_or, ℕ, List, [], sym, ◌∙◌, ap, arith}
+use Rattle.std.proofs.Common.{◌≡◌, ◌*◌, ◌-◌, bit_xor, ◌/◌, ◌^◌, drop, length, get_or, ℕ, List, [], sym, ◌∙◌, ap, arith}
 use Rattle.std.proofs.lemmas.List.{at_drop_all}
 use Rattle.std.specs.Int.{from_le_bytes, w64}
 use Rattle.frame_codec.specs.Tables.{shifted_bytes}

@@ -1,7 +1,6 @@
 -- Where a test fails no event's frame stands; where all hold, that of the body between does.
-use Rattle.std.proofs.Common.{◌≡◌, ◌<◌, ◌≤◌, ◌+◌, ◌-◌, ℕ, List, ◌∙◌, arith}
+use Rattle.std.proofs.Common.{◌-◌, ◌∙◌, arith}
 use Rattle.std.proofs.lemmas.List.{take_rest}
-use Rattle.frame_codec.specs.Frame.{Event, size_of, IsFrameAt}
 use Rattle.frame_codec.proofs.LayoutLemmas.{le32-bytes}
 use Rattle.frame_codec.proofs.ReadLemmas.{frame_read, frame_whole, size_read, header_missing, checksum_missing}
 use Rattle.frame_codec.proofs.read.frame_at.Goals as goal
