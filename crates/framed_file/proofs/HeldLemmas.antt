@@ -54,9 +54,9 @@ module _ (IsHeader : List ℕ → ℕ → Type 0) (file : File) (image header : 
       is ∙ ap (λ (l : List ℕ). framed header checksum some ++ l) at.stands
       ∙ sym (append_assoc (framed header checksum some) (frame_of (sum some) (end some) event) at.rest)
       ∙ ap (λ (l : List ℕ). l ++ at.rest) (append_assoc header (chain_of checksum header_len some) (frame_of (sum some) (end some) event)
-        ∙ ap (λ (l : List ℕ). header ++ l) (ap (λ (l : List ℕ). chain_of checksum header_len some ++ l) (sym (chain_of-cons (sum some) (end some) event []
-          ∙ ap (λ (l : List ℕ). frame_of (sum some) (end some) event ++ l) (chain_of-nil _ _) ∙ append-nil (frame_of (sum some) (end some) event)))
-          ∙ sym (chain_of-append checksum header_len some (event ∷ [])))) in
+      ∙ ap (λ (l : List ℕ). header ++ l) (ap (λ (l : List ℕ). chain_of checksum header_len some ++ l) (sym (chain_of-cons (sum some) (end some) event []
+      ∙ ap (λ (l : List ℕ). frame_of (sum some) (end some) event ++ l) (chain_of-nil _ _) ∙ append-nil (frame_of (sum some) (end some) event)))
+      ∙ sym (chain_of-append checksum header_len some (event ∷ [])))) in
       let found = faithful.frames_meant header checksum some event (record {
         is_header = is_header;
         ends = omega (arith, end_of-append header_len some (event ∷ []), at.ends);
@@ -109,9 +109,9 @@ module _ (IsHeader : List ℕ → ℕ → Type 0) (file : File) (image header : 
           is ∙ ap (λ (l : List ℕ). framed header checksum some ++ l) at
           ∙ sym (append_assoc (framed header checksum some) (frame_of (sum some) (end some) e) rest')
           ∙ ap (λ (l : List ℕ). l ++ rest') (append_assoc header (chain_of checksum header_len some) (frame_of (sum some) (end some) e)
-            ∙ ap (λ (l : List ℕ). header ++ l) (ap (λ (l : List ℕ). chain_of checksum header_len some ++ l) (sym (chain_of-cons (sum some) (end some) e []
-              ∙ ap (λ (l : List ℕ). frame_of (sum some) (end some) e ++ l) (chain_of-nil _ _) ∙ append-nil (frame_of (sum some) (end some) e)))
-              ∙ sym (chain_of-append checksum header_len some (e ∷ []))))
+          ∙ ap (λ (l : List ℕ). header ++ l) (ap (λ (l : List ℕ). chain_of checksum header_len some ++ l) (sym (chain_of-cons (sum some) (end some) e []
+          ∙ ap (λ (l : List ℕ). frame_of (sum some) (end some) e ++ l) (chain_of-nil _ _) ∙ append-nil (frame_of (sum some) (end some) e)))
+          ∙ sym (chain_of-append checksum header_len some (e ∷ []))))
 
       goes_on : HoldsFrames header checksum (some ++ e ∷ []) all image → HoldsFrames header checksum some all image
       goes_on held = record {

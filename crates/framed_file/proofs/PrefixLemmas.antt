@@ -42,8 +42,8 @@ starts_or_not [] ys = inl (ys, refl)
 starts_or_not (x ∷ xs) [] = inr (λ is. let e = is.1 in cc)
 starts_or_not (x ∷ xs) (y ∷ ys) = ⊎_elim
     (λ same. ⊎_elim
-      (λ is. inl (is.0, ap (λ (l : List ℕ). y ∷ l) is.1 ∙ ap (λ (a : ℕ). a ∷ (xs ++ is.0)) (sym same)))
-      (λ not. inr (λ is. let e = is.1 in let more : ys ≡ xs ++ is.0 = cc in not (is.0, more)))
-      (starts_or_not xs ys))
+    (λ is. inl (is.0, ap (λ (l : List ℕ). y ∷ l) is.1 ∙ ap (λ (a : ℕ). a ∷ (xs ++ is.0)) (sym same)))
+    (λ not. inr (λ is. let e = is.1 in let more : ys ≡ xs ++ is.0 = cc in not (is.0, more)))
+    (starts_or_not xs ys))
     (λ differ. inr (λ is. let e = is.1 in let same : x ≡ y = cc in differ same))
     (cases_eq x y)

@@ -28,8 +28,8 @@ pub record IsFaithful (IsHeader : List ℕ → ℕ → Type 0) (file : File) (im
   pub frames_meant : (header : List ℕ) (checksum : ℕ) (events : List Event) (event : Event)
       → Reaches IsHeader image header checksum (events ++ event ∷ [])
       → (state : List ℕ) × IsMeant file.synced file.steps state
-        × (take (size_of event) (drop (end_of header_len events) state)
-            ≡ frame_of (last_checksum checksum header_len events) (end_of header_len events) event)
+      × (take (size_of event) (drop (end_of header_len events) state)
+      ≡ frame_of (last_checksum checksum header_len events) (end_of header_len events) event)
 
 -- the bytes of a file with this header and these frames
 abbrev pub framed : List ℕ → ℕ → List Event → List ℕ
