@@ -1,3 +1,11 @@
 pub mod TransactionLemmas
+pub mod ReadingLemmas
+pub mod RowLemmas
+pub mod WritingLemmas
+pub mod UniqueLemmas
+pub mod PlainLemmas
 pub mod LoggedLemmas
 pub mod CallLemmas
+pub mod WalkLemmas
+pub mod StagedLemmas
+pub mod OpenLemmas

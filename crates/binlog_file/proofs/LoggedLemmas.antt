@@ -4,6 +4,8 @@ use Rattle.std.proofs.lemmas.List.{append-nil, append_cancel_left}
 use Rattle.disk_model.specs.File.{File}
 use Rattle.disk_model.specs.Grew.{OnlyGrew}
 use Rattle.frame_codec.proofs.FrameLemmas.{length-le32, length-le64}
+use Rattle.frame_codec.specs.Bytes.{le32, le64}
+use Rattle.frame_codec.specs.Crc.{crc_of}
 use Rattle.frame_codec.specs.Frame.{Event, limit, IsFrameAt}
 use Rattle.frame_codec.specs.Chain.{chain_of, end_of, last_checksum, EndsWithin}
 use Rattle.frame_codec.proofs.ChainLemmas.{chain_of-append, end_of-append, last_checksum-append, end_of-le, chain_front}
@@ -161,6 +163,19 @@ logged_frames low all image fit ends low_all held =
 pub length-log_header : length log_header ≡ header_len
 unfolding log_header header_fields
 length-log_header = simp (length-append, length-le32, length-le64)
+
+-- the checksum of the header, and its bytes
+pub header_checksum_is : header_checksum ≡ 727996790
+unfolding header_checksum header_fields le32 le64 crc_of
+header_checksum_is = refl
+
+-- the header's bytes
+abbrev pub header_bytes : List ℕ
+header_bytes = 80 ∷ 76 ∷ 85 ∷ 71 ∷ 68 ∷ 76 ∷ 79 ∷ 71 ∷ 1 ∷ 0 ∷ 0 ∷ 0 ∷ 1 ∷ 0 ∷ 0 ∷ 0 ∷ 0 ∷ 0 ∷ 0 ∷ 0 ∷ 0 ∷ 0 ∷ 0 ∷ 0 ∷ 0 ∷ 0 ∷ 0 ∷ 0 ∷ 118 ∷ 89 ∷ 100 ∷ 43 ∷ []
+
+pub log_header_is : log_header ≡ header_bytes
+unfolding log_header header_checksum header_fields le32 le64 crc_of
+log_header_is = refl
 
 -- A faithful image of a log has all transactions that were synced, and of the others a first part.
 pub log_held : (file : File) (low all : List Transaction) → AreFit all → EndsWithin header_len (all_events all) → IsPrefix low all

@@ -1,15 +1,16 @@
 -- Events tell one transaction.
-use Rattle.std.proofs.Common.{◌≡◌, ℕ, ℤ, ◌<◌, ◌^◌, List, ◌∷◌, ◌++◌, length, FitsSigned, sym, ◌∙◌, ap}
+use Rattle.std.proofs.Common.{◌≡◌, ℕ, ℤ, ◌+◌, ◌≤◌, ◌<◌, ◌^◌, List, [], ◌∷◌, ◌++◌, length, FitsSigned, sym, ◌∙◌, ap, arith, length-append}
 use Rattle.std.specs.Int.{w64, cast_unsigned, cast_signed}
 use Rattle.std.proofs.lemmas.Int.{to_z-of_z}
 use Rattle.std.proofs.Math.Facts.{Fits-of_z}
 use Rattle.frame_codec.specs.Bytes.{le64}
 use Rattle.frame_codec.specs.Frame.{Event}
+use Rattle.frame_codec.specs.Chain.{end_of}
 use Rattle.frame_codec.proofs.FrameLemmas.{length-le64, le64_same, same_pieces}
 use Rattle.binlog_file.specs.declared.transaction.Change.{Change}
 use Rattle.binlog_file.specs.declared.transaction.Change.TheVariants.{Insert}
 use Rattle.binlog_file.specs.declared.transaction.Transaction.{Transaction}
-use Rattle.binlog_file.specs.Transaction.{row_image, row_event, xid_event, events_of, IsFitChange, IsFit}
+use Rattle.binlog_file.specs.Transaction.{begin, table_map, row_image, row_event, xid_event, events_of, IsFitChange, IsFit}
 
 -- a key in two's complement is that of one key
 key_same : (k m : ℤ) → FitsSigned w64 k → FitsSigned w64 m → cast_unsigned w64 k ≡ cast_unsigned w64 m → k ≡ m
@@ -46,3 +47,22 @@ one_transaction t u x y fit_t fit_u is =
     let rest : x ≡ y = cc in
     let xid : t.xid ≡ u.xid = le64_same t.xid u.xid fit_t.xid fit_u.xid (ap (λ (e : Event). e.body) last) in
     (transaction_same t u xid (change_same t.change u.change fit_t.change fit_u.change row), rest)
+
+pub length-row_image : (key : ℤ) (text : List ℕ) → length (row_image key text) ≡ 10 + length text
+unfolding row_image
+length-row_image key text = omega (arith, length-append (le64 (cast_unsigned w64 key)) (length text ∷ text), length-le64 (cast_unsigned w64 key))
+
+-- how long a transaction is
+pub length-events_of : (at : ℕ) (t : Transaction) → IsFit t → (at + 124 ≤ end_of at (events_of t)) × (end_of at (events_of t) ≤ at + 134)
+length-events_of at t fit = size at t.xid t.change fit.change
+  where
+    size : (at xid : ℕ) (c : Change) → IsFitChange c
+        → (at + 124 ≤ end_of at (begin ∷ table_map ∷ row_event c ∷ xid_event xid ∷ [])) × (end_of at (begin ∷ table_map ∷ row_event c ∷ xid_event xid ∷ []) ≤ at + 134)
+    size at xid (Insert key text) fits =
+        let row = length-row_image key text in
+        let last = length-le64 xid in
+        (omega (arith, row, last, fits.1), omega (arith, row, last, fits.1))
+
+-- its length, by its text
+pub events_size : (at xid : ℕ) (key : ℤ) (text : List ℕ) → end_of at (begin ∷ table_map ∷ row_event (Insert key text) ∷ xid_event xid ∷ []) ≡ at + (124 + length text)
+events_size at xid key text = let row = length-row_image key text in let last = length-le64 xid in omega (arith, row, last)

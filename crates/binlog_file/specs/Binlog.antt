@@ -9,17 +9,19 @@ use Rattle.binlog_file.specs.declared.binlog.Binlog.{Binlog}
 use Rattle.binlog_file.specs.declared.transaction.Transaction.{Transaction}
 use Rattle.binlog_file.specs.Logged.{all_events, log_end, log_checksum, log_of, AreFit}
 
--- how many transactions were written, and how many of them are synced
+-- how many transactions were written
 abbrev pub flushed_of : Binlog → ℕ
 flushed_of log = log.flushed
 
+-- how many of them are synced
 abbrev pub durable_of : Binlog → ℕ
 durable_of log = log.durable
 
--- where the next transaction goes, and the checksum to which it is chained
+-- where the next transaction goes
 abbrev pub end_in : Binlog → ℕ
 end_in log = log.len
 
+-- the checksum to which the next transaction is chained
 abbrev pub checksum_in : Binlog → ℕ
 checksum_in log = log.crc
 

@@ -13,6 +13,7 @@ use Rattle.binlog_file.specs.Transaction.{events_of, IsFit, IsTransactionAt}
 unfoldable pub header_fields : List ℕ
 header_fields = codes "PLUGDLOG" ++ le32 1 ++ le32 1 ++ le64 0 ++ le32 0
 
+-- the checksum that ends the header
 unfoldable pub header_checksum : ℕ
 header_checksum = crc_of 0 header_fields
 
@@ -20,6 +21,7 @@ header_checksum = crc_of 0 header_fields
 unfoldable pub log_header : List ℕ
 log_header = header_fields ++ le32 header_checksum
 
+-- a valid header, and its checksum: there is one
 abbrev pub IsLogHeader : List ℕ → ℕ → Type 0
 IsLogHeader header checksum = (header ≡ log_header) × (checksum ≡ header_checksum)
 
@@ -40,6 +42,7 @@ log_checksum list = last_checksum header_checksum header_len (all_events list)
 abbrev pub log_of : List Transaction → List ℕ
 log_of list = framed log_header header_checksum (all_events list)
 
+-- all of them can be spelt
 abbrev pub AreFit : List Transaction → Type 0
 AreFit [] = Unit {0}
 AreFit (t ∷ list) = IsFit t × AreFit list

@@ -6,9 +6,29 @@
 #![tactic(auto)]
 
 mod binlog;
+mod event;
+mod fault;
+mod laws;
+mod open_log;
+mod plain;
+mod read;
+mod scan;
+mod settle;
+#[cfg(test)]
+mod tests;
 mod text;
 mod transaction;
+mod visit;
+mod walk;
+mod write;
 
 pub use binlog::Binlog;
+pub use fault::BinlogFault;
+pub use laws::{no_transaction_begins_another, one_log};
+pub use open_log::Opened;
+pub use plain::logged_in;
+pub use read::{Found, transaction_at};
 pub use text::Text;
 pub use transaction::{Change, Transaction};
+pub use visit::Visit;
+pub use write::{put_transaction, transaction_len};
