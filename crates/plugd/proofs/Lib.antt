@@ -1,0 +1,14 @@
+pub mod CommandLemmas
+pub mod NumberLemmas
+pub mod ReplyLemmas
+pub mod XidLemmas
+pub mod LogOneLemmas
+pub mod XidSetLemmas
+pub mod CommitLemmas
+pub mod SafeLemmas
+pub mod ServeLemmas
+pub mod LineLemmas
+pub mod SessionLemmas
+pub mod PieceLemmas
+pub mod ReadLemmas
+pub mod BeginLemmas

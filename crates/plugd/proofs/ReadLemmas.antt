@@ -1,0 +1,225 @@
+-- How a run reads on, and how it ends.
+use Rattle.std.proofs.Common.{◌≡◌, ⊎_elim, ℕ, min, ◌+◌, ◌<◌, ◌≤◌, List, [], ◌∷◌, ◌++◌, length, take, drop, flat_map, Option, Some, Ok, Err, refl, sym, ◌∙◌, ap, subst, arith, append_assoc, length-append, take-append-drop}
+use Rattle.std.proofs.lemmas.List.{append-nil, take_at, length-take-le, take-take}
+use Rattle.fault_counts.specs.Rose.{Rose}
+use Rattle.disk_model.specs.Disk.{Disk}
+use Rattle.outer_io.specs.Ends.{Took, Put, PutFront}
+use Rattle.plugd.specs.declared.play.Ending.{Ending}
+use Rattle.plugd.specs.declared.play.Ending.TheVariants.{EndOfInput, SourceFailed, TooLong}
+use Rattle.plugd.specs.declared.session.Session.{Session}
+use Rattle.plugd.specs.Lines.{Splits, AreFirst}
+use Rattle.plugd.specs.Reply.{text_of}
+use Rattle.plugd.specs.Serve.{Base}
+use Rattle.plugd.specs.Session.{input_limit, World, FaultsGoOn, Reading, Ends}
+use Rattle.plugd.specs.Piece.{Written, Broken, PlaysBytes, Closes, PlaysPiece}
+use Rattle.plugd.proofs.ServeLemmas.{halts_of}
+use Rattle.plugd.proofs.LineLemmas.{first_of}
+
+took_more : (xs ys : List ℕ) (a b c : Option (List ℕ)) → Took xs a b → Took ys b c → Took (xs ++ ys) a c
+took_more xs ys a b c first second = record {
+  told = λ all is.
+      let one = first.told all is in
+      let two = second.told one.0 one.1 in
+      (two.0, two.1, one.2 ∙ ap (λ (l : List ℕ). xs ++ l) two.2 ∙ sym (append_assoc xs ys two.0));
+}
+
+took_same : (xs : List ℕ) (a b c : Option (List ℕ)) → Took xs a b → c ≡ b → Took xs a c
+took_same xs a b c took same = subst (λ (o : Option (List ℕ)). Took xs a o) (sym same) took
+
+puts_more : (xs ys : List ℕ) (a b c : Option (List ℕ)) → Put xs a b → Put ys b c → Put (xs ++ ys) a c
+puts_more xs ys a b c first second = record { told = λ all is. second.told (all ++ xs) (first.told all is) ∙ ap (λ (l : List ℕ). Some l) (append_assoc all xs ys) }
+
+fronts_more : (xs ys : List ℕ) (a b c : Option (List ℕ)) → Put xs a b → PutFront ys b c → PutFront (xs ++ ys) a c
+fronts_more xs ys a b c first second =
+    (xs ++ second.0, second.1, ap (λ (l : List ℕ). xs ++ l) second.2 ∙ sym (append_assoc xs second.0 second.1), puts_more xs second.0 a b c first second.3)
+
+-- all texts were spoken
+spoken_are : (base : Base) (start : World) (taken : List ℕ) (session : Session) (w : World) → (r : Reading base start taken session w) → Put (flat_map text_of r.standing.replies) start.held w.held
+spoken_are base start taken session w r =
+    subst (λ (l : List ℕ). Put l start.held w.held) (sym (r.standing.texts ∙ ap (λ (l : List ℕ). r.spoken ++ l) r.all_told ∙ append-nil r.spoken)) r.put
+
+-- a read failed
+pub source_failed : (room : ℕ) (base : Base) (start : World) (taken : List ℕ) (session : Session) (w : World) (left : Option (List ℕ)) (faults : ℕ) → Reading base start taken session w → length taken + room ≡ input_limit
+    → left ≡ w.left → Rose w.source_faults faults → w.source_faults ≤ faults
+    → Ends base start SourceFailed session.server (record { disk = w.disk; left = left; held = w.held; source_faults = faults; sink_faults = w.sink_faults })
+source_failed room base start taken session w left faults r full same rose more = record {
+  read = taken;
+  lines = r.standing.lines;
+  replies = r.standing.replies;
+  took = took_same taken start.left w.left left r.took same;
+  played = (omega (arith, full), r.standing.rest, r.standing.splits);
+  halts = halts_of base r.standing.lines r.standing.replies session.server w.disk r.standing.serving;
+  told = spoken_are base start taken session w r;
+  reason = let before = r.faults.source in omega (arith, before, rose);
+  faults = record { source = let before = r.faults.source in omega (arith, before, more); sink = r.faults.sink };
+}
+
+-- the input came to its end
+pub input_ended : (room : ℕ) (base : Base) (start : World) (taken : List ℕ) (old new : Session) (w : World) (left : Option (List ℕ)) (faults : ℕ) (end : Disk) (written : Written) → Reading base start taken old w → length taken + room ≡ input_limit
+    → Took [] w.left left → w.source_faults ≤ faults → ((xs : List ℕ) → w.left ≡ Some xs → xs ≡ []) → Closes old new (Ok tt) w.disk end written → written.before ≡ w.held → written.faults ≡ w.sink_faults
+    → Ends base start EndOfInput new.server (record { disk = end; left = left; held = written.after; source_faults = faults; sink_faults = written.faults_after })
+input_ended room base start taken old new w left faults end written r full took more none closes held sink =
+    let so = closes.ok base taken r.spoken r.standing r.all_told refl in
+    record {
+      read = taken;
+      lines = so.0;
+      replies = so.1;
+      took = subst (λ (l : List ℕ). Took l start.left left) (append-nil taken) (took_more taken [] start.left w.left left r.took took);
+      played = (omega (arith, full), so.3);
+      halts = so.4;
+      told = subst (λ (l : List ℕ). Put l start.held written.after) (sym so.5) (puts_more r.spoken so.2 start.held w.held written.after r.put (subst (λ (h : Option (List ℕ)). Put so.2 h written.after) held so.6));
+      reason = λ xs is.
+          let one = r.took.told xs is in
+          let two = took.told one.0 one.1 in
+          two.1 ∙ ap (λ (l : List ℕ). Some l) (sym two.2 ∙ none one.0 one.1);
+      faults = record { source = let before = r.faults.source in omega (arith, before, more); sink = let before = r.faults.sink in let step = closes.no_fewer in omega (arith, before, step, sink) };
+    }
+
+-- the sink failed, or there was no memory
+pub broken_ends : (base : Base) (start : World) (taken read played others : List ℕ) (old new : Session) (ending : Ending) (w : World) (left : Option (List ℕ)) (faults : ℕ) (end : Disk) (written : Written) → (r : Reading base start taken old w)
+    → Took read start.left left → w.source_faults ≤ faults → Broken base played r.spoken ending new.server end written → read ++ 13 ∷ 10 ∷ [] ≡ played ++ others
+    → written.before ≡ w.held → written.faults ≡ w.sink_faults → written.faults ≤ written.faults_after
+    → Ends base start ending new.server (record { disk = end; left = left; held = written.after; source_faults = faults; sink_faults = written.faults_after })
+broken_ends base start taken read played others old new ending w left faults end written r took more broken part held sink step =
+    ⊎_elim (λ sinks. subst (λ (e : Ending). Ends base start e new.server world) (sym sinks.0) (record {
+      read = read;
+      lines = broken.lines;
+      replies = broken.replies;
+      took = took;
+      played = first;
+      halts = broken.halts;
+      told = told;
+      reason = let before = r.faults.sink in let rose = sinks.1 in omega (arith, before, rose, sink);
+      faults = faults_on;
+    }))
+    (λ memory. subst (λ (e : Ending). Ends base start e new.server world) (sym memory) (record {
+      read = read;
+      lines = broken.lines;
+      replies = broken.replies;
+      took = took;
+      played = first;
+      halts = broken.halts;
+      told = told;
+      reason = tt;
+      faults = faults_on;
+    })) broken.reason
+  where
+    world : World
+    world = record { disk = end; left = left; held = written.after; source_faults = faults; sink_faults = written.faults_after }
+
+    first : AreFirst read broken.lines
+    first = first_of read played others broken.lines broken.more broken.lines_are broken.spelt part
+
+    told : PutFront (flat_map text_of broken.replies) start.held written.after
+    told = subst (λ (l : List ℕ). PutFront l start.held written.after) (sym broken.texts)
+        (fronts_more r.spoken broken.fresh start.held w.held written.after r.put (subst (λ (h : Option (List ℕ)). PutFront broken.fresh h written.after) held broken.put))
+
+    faults_on : FaultsGoOn start world
+    faults_on = record { source = let before = r.faults.source in omega (arith, before, more); sink = let before = r.faults.sink in omega (arith, before, step, sink) }
+
+-- the piece was played
+pub reads_on : (base : Base) (start : World) (taken bytes : List ℕ) (old new : Session) (w : World) (left : Option (List ℕ)) (faults : ℕ) (end : Disk) (written : Written) → Reading base start taken old w
+    → Took bytes w.left left → w.source_faults ≤ faults → PlaysBytes bytes old new (Ok tt) w.disk end written → written.before ≡ w.held → written.faults ≡ w.sink_faults
+    → Reading base start (taken ++ bytes) new (record { disk = end; left = left; held = written.after; source_faults = faults; sink_faults = written.faults_after })
+reads_on base start taken bytes old new w left faults end written r took more plays held sink =
+    let so = plays.ok base taken r.spoken r.standing r.all_told refl in
+    record {
+      spoken = r.spoken ++ so.0;
+      standing = so.1;
+      all_told = so.2;
+      took = took_more taken bytes start.left w.left left r.took took;
+      put = puts_more r.spoken so.0 start.held w.held written.after r.put (subst (λ (h : Option (List ℕ)). Put so.0 h written.after) held so.3);
+      faults = record { source = let before = r.faults.source in omega (arith, before, more); sink = let before = r.faults.sink in let step = plays.no_fewer in omega (arith, before, step, sink) };
+    }
+
+-- the input is too long
+pub too_long : (base : Base) (start : World) (taken bytes others : List ℕ) (old new : Session) (w : World) (left : Option (List ℕ)) (faults : ℕ) (end : Disk) (written : Written) → Reading base start taken old w
+    → Took (bytes ++ others) w.left left → w.source_faults ≤ faults → PlaysBytes bytes old new (Ok tt) w.disk end written → written.before ≡ w.held → written.faults ≡ w.sink_faults
+    → length taken + length bytes ≡ input_limit → 0 < length others
+    → Ends base start TooLong new.server (record { disk = end; left = left; held = written.after; source_faults = faults; sink_faults = written.faults_after })
+too_long base start taken bytes others old new w left faults end written r took more plays held sink full some =
+    let so = plays.ok base taken r.spoken r.standing r.all_told refl in
+    let n = so.1 in
+    record {
+      read = (taken ++ bytes) ++ others;
+      lines = n.lines;
+      replies = n.replies;
+      took = subst (λ (l : List ℕ). Took l start.left left) (sym (append_assoc taken bytes others)) (took_more taken (bytes ++ others) start.left w.left left r.took took);
+      played = (
+        omega (arith, full, some, length-append (taken ++ bytes) others, length-append taken bytes),
+        n.rest,
+        subst (λ (l : List ℕ). Splits l n.lines n.rest) (sym (take_at (taken ++ bytes) others input_limit (omega (arith, full, length-append taken bytes)))) n.splits,
+      );
+      halts = halts_of base n.lines n.replies new.server end n.serving;
+      told = subst (λ (l : List ℕ). Put l start.held written.after) (sym (n.texts ∙ ap (λ (l : List ℕ). (r.spoken ++ so.0) ++ l) so.2 ∙ append-nil (r.spoken ++ so.0)))
+          (puts_more r.spoken so.0 start.held w.held written.after r.put (subst (λ (h : Option (List ℕ)). Put so.0 h written.after) held so.3));
+      reason = tt;
+      faults = record { source = let before = r.faults.source in omega (arith, before, more); sink = let before = r.faults.sink in let step = plays.no_fewer in omega (arith, before, step, sink) };
+    }
+
+-- the piece's two answers
+pub piece_err : (room : ℕ) (old new : Session) (e : Ending) (before after : World)
+    → ((base : Base) (start : World) (taken : List ℕ) → Reading base start taken old before → length taken + room ≡ input_limit → Ends base start e new.server after)
+    → PlaysPiece room old new (Err e) before after
+piece_err room old new e before after does = record {
+  ok = λ base start taken r size n is. let no = is in cc;
+  err = λ base start taken r size ending is. subst (λ (x : Ending). Ends base start x new.server after) (let same = is in cc) (does base start taken r size);
+}
+
+pub piece_ok : (room : ℕ) (old new : Session) (n : ℕ) (bytes : List ℕ) (before after : World) → 0 < n → n ≤ room → length bytes ≡ n
+    → ((base : Base) (start : World) (taken : List ℕ) → Reading base start taken old before → length taken + room ≡ input_limit → Reading base start (taken ++ bytes) new after)
+    → PlaysPiece room old new (Ok n) before after
+piece_ok room old new n bytes before after some fits size does = record {
+  ok = λ base start taken r full m is.
+      let same : n ≡ m = let e = is in cc in
+      (omega (arith, same, some), omega (arith, same, fits), (bytes, omega (arith, same, size), does base start taken r full));
+  err = λ base start taken r full ending is. let no = is in cc;
+}
+
+-- nothing was read
+pub nothing_read : (buf : List ℕ) (n : ℕ) (a b : Option (List ℕ)) → n ≡ 0 → Took (take n buf) a b → Took [] a b
+nothing_read buf n a b none took = subst (λ (m : ℕ). Took (take m buf) a b) none took
+
+-- the first part of what was read
+pub first_bytes : (buf : List ℕ) (n kept : ℕ) → kept ≤ n → take n buf ≡ take kept buf ++ drop kept (take n buf)
+first_bytes buf n kept le = sym (take-append-drop kept (take n buf)) ∙ ap (λ (l : List ℕ). l ++ drop kept (take n buf)) (take-take kept n buf le)
+
+pub part_of_read : (taken kept others : List ℕ) → (taken ++ (kept ++ others)) ++ 13 ∷ 10 ∷ [] ≡ (taken ++ kept) ++ (others ++ 13 ∷ 10 ∷ [])
+part_of_read taken kept others = ap (λ (l : List ℕ). l ++ 13 ∷ 10 ∷ []) (sym (append_assoc taken kept others)) ∙ append_assoc (taken ++ kept) others (13 ∷ 10 ∷ [])
+
+-- it broke in the middle of a piece
+pub broken_piece : (base : Base) (start : World) (taken buf : List ℕ) (n kept : ℕ) (old new : Session) (ending : Ending) (w : World) (left : Option (List ℕ)) (faults : ℕ) (end : Disk) (written : Written) → (r : Reading base start taken old w)
+    → kept ≤ n → Took (take n buf) w.left left → w.source_faults ≤ faults → PlaysBytes (take kept buf) old new (Err ending) w.disk end written → written.before ≡ w.held → written.faults ≡ w.sink_faults
+    → Ends base start ending new.server (record { disk = end; left = left; held = written.after; source_faults = faults; sink_faults = written.faults_after })
+broken_piece base start taken buf n kept old new ending w left faults end written r le took more plays held sink =
+    broken_ends base start taken (taken ++ (take kept buf ++ drop kept (take n buf))) (taken ++ take kept buf) (drop kept (take n buf) ++ 13 ∷ 10 ∷ []) old new ending w left faults end written r
+    (took_more taken (take kept buf ++ drop kept (take n buf)) start.left w.left left r.took (subst (λ (l : List ℕ). Took l w.left left) (first_bytes buf n kept le) took))
+    more (plays.err base taken r.spoken r.standing r.all_told ending refl) (part_of_read taken (take kept buf) (drop kept (take n buf))) held sink plays.no_fewer
+
+-- it broke at the open line
+pub broken_close : (base : Base) (start : World) (taken : List ℕ) (old new : Session) (ending : Ending) (w : World) (left : Option (List ℕ)) (faults : ℕ) (end : Disk) (written : Written) → (r : Reading base start taken old w)
+    → Took [] w.left left → w.source_faults ≤ faults → Closes old new (Err ending) w.disk end written → written.before ≡ w.held → written.faults ≡ w.sink_faults
+    → Ends base start ending new.server (record { disk = end; left = left; held = written.after; source_faults = faults; sink_faults = written.faults_after })
+broken_close base start taken old new ending w left faults end written r took more closes held sink =
+    broken_ends base start taken taken (taken ++ 13 ∷ 10 ∷ []) [] old new ending w left faults end written r
+    (subst (λ (l : List ℕ). Took l start.left left) (append-nil taken) (took_more taken [] start.left w.left left r.took took))
+    more (closes.err base taken r.spoken r.standing r.all_told ending refl) (sym (append-nil (taken ++ 13 ∷ 10 ∷ []))) held sink closes.no_fewer
+
+-- the input is too long, in a piece
+pub long_piece : (base : Base) (start : World) (taken buf : List ℕ) (n kept room : ℕ) (old new : Session) (w : World) (left : Option (List ℕ)) (faults : ℕ) (end : Disk) (written : Written) → Reading base start taken old w
+    → kept < n → kept ≡ min n room → n ≤ length buf → Took (take n buf) w.left left → w.source_faults ≤ faults → PlaysBytes (take kept buf) old new (Ok tt) w.disk end written → written.before ≡ w.held → written.faults ≡ w.sink_faults
+    → length taken + room ≡ input_limit
+    → Ends base start TooLong new.server (record { disk = end; left = left; held = written.after; source_faults = faults; sink_faults = written.faults_after })
+long_piece base start taken buf n kept room old new w left faults end written r lt is fits took more plays held sink full =
+    let all = length-take-le n buf fits in
+    let front = length-take-le kept buf (omega (arith, lt, fits)) in
+    too_long base start taken (take kept buf) (drop kept (take n buf)) old new w left faults end written r
+    (subst (λ (l : List ℕ). Took l w.left left) (first_bytes buf n kept (omega (arith, lt))) took) more plays held sink
+    (omega (arith, full, is, lt, front)) (omega (arith, lt, all, front, ap length (first_bytes buf n kept (omega (arith, lt))), length-append (take kept buf) (drop kept (take n buf))))
+
+-- the piece was played whole
+pub reads_piece : (base : Base) (start : World) (taken buf : List ℕ) (n kept : ℕ) (old new : Session) (w : World) (left : Option (List ℕ)) (faults : ℕ) (end : Disk) (written : Written) → Reading base start taken old w
+    → kept ≡ n → Took (take n buf) w.left left → w.source_faults ≤ faults → PlaysBytes (take kept buf) old new (Ok tt) w.disk end written → written.before ≡ w.held → written.faults ≡ w.sink_faults
+    → Reading base start (taken ++ take n buf) new (record { disk = end; left = left; held = written.after; source_faults = faults; sink_faults = written.faults_after })
+reads_piece base start taken buf n kept old new w left faults end written r same took more plays held sink =
+    reads_on base start taken (take n buf) old new w left faults end written r took more (subst (λ (k : ℕ). PlaysBytes (take k buf) old new (Ok tt) w.disk end written) same plays) held sink

@@ -1,0 +1,65 @@
+use Rattle.std.proofs.Common.{rules, ◌≡◌, ℕ, ℤ, SFits, to_z, of_z, List, [], take, Result, Ok, refl, subst}
+use Rattle.std.specs.declared.alloc.AllocError.{AllocError}
+use Rattle.std.specs.Int.{w64}
+use Rattle.std.proofs.lemmas.Int.{to_z-of_z}
+use Rattle.disk_model.specs.Disk.{Disk}
+use Rattle.plugd.specs.declared.server.Server.{Server}
+use Rattle.plugd.proofs.NumberLemmas.{mag_big}
+use Rattle.plugd.specs.declared.command.Command.{Command}
+use Rattle.plugd.specs.declared.command.Command.TheVariants.{Settle, Insert, Bad}
+use Rattle.plugd.specs.declared.reply.Reply.{Reply}
+use Rattle.plugd.specs.Command.{IsCommand}
+use Rattle.plugd.specs.Commit.{Commits}
+use Rattle.plugd.specs.Play.{settles}
+use Rattle.plugd.proofs.CommandLemmas.{command_of_front}
+use Rattle.plugd.proofs.ServeLemmas.{counted, idle, bad_line, halted_line, inserted, answers_err}
+use Rattle.plugd.proofs.server.Server.answer.Goals as goal
+
+-- what the front of a line asks for, the line does
+asks : (front line : List ℕ) (found one : Command) → IsCommand front found → found ≡ one → front ≡ take 64 line → IsCommand line one
+asks front line found one is same part = command_of_front line one (subst (λ (l : List ℕ). IsCommand l one) part (subst (IsCommand front) same is))
+
+key_fits : (front : List ℕ) (found : Command) (key : ℤ) (text : List ℕ) → IsCommand front found → found ≡ Insert key text → SFits w64 key
+key_fits front found key text is same = record { sfits = mag_big key (subst (λ (c : Command). IsCommand front c) same is).2 }
+
+-- the commit, in the key as the line has it
+committed : (key : ℤ) (text : List ℕ) (old new : Server) (result : Result Reply AllocError) (reply : Reply) (start end : Disk) → SFits w64 key → result ≡ Ok reply
+    → Commits (to_z w64 (of_z w64 key)) text old new result start end → Commits key text old new (Ok reply) start end
+committed key text old new result reply start end fits is commits =
+    subst (λ (k : ℤ). Commits k text old new (Ok reply) start end) (to_z-of_z w64 key fits) (subst (λ (r : Result Reply AllocError). Commits (to_z w64 (of_z w64 key)) text old new r start end) is commits)
+
+pub returns-then-self : goal.returns-then-self
+returns-then-self g c = record {
+  ok = λ base lines replies line part s. halted_line base lines replies c.args.self.now _ s line c.in-Insert.key c.in-Insert.text
+      (asks c.args.front.now line c.in_ok-command.command (Insert c.in-Insert.key c.in-Insert.text) c.in_ok-command.ensures c.in-Insert.is part) c.if-self.true;
+  err = λ base lines replies s. tt;
+}
+
+pub returns-in-Settle : goal.returns-in-Settle
+returns-in-Settle g c = record {
+  ok = λ base lines replies line part s. idle base lines replies c.args.self.now _ s line []
+      (settles (asks c.args.front.now line c.in_ok-command.command Settle c.in_ok-command.ensures c.in-Settle.is part) refl refl) refl;
+  err = λ base lines replies s. tt;
+}
+
+pub returns-in-Bad : goal.returns-in-Bad
+returns-in-Bad g c = record {
+  ok = λ base lines replies line part s. bad_line base lines replies c.args.self.now _ s line
+      (asks c.args.front.now line c.in_ok-command.command Bad c.in_ok-command.ensures c.in-Bad.is part);
+  err = λ base lines replies s. tt;
+}
+
+pub returns-in_ok-reply-in-Insert : goal.returns-in_ok-reply-in-Insert
+returns-in_ok-reply-in-Insert g c = record {
+  ok = λ base lines replies line part s. inserted base lines replies c.args.self.now c.commit.new.self _ _ s line c.in-Insert.key c.in-Insert.text c.in_ok-reply-in-Insert.reply
+      (asks c.args.front.now line c.in_ok-command.command (Insert c.in-Insert.key c.in-Insert.text) c.in_ok-command.ensures c.in-Insert.is part) c.if-self.false
+      (committed c.in-Insert.key c.in-Insert.text (counted c.args.self.now) c.commit.new.self c.commit.result c.in_ok-reply-in-Insert.reply _ _ (key_fits c.args.front.now c.in_ok-command.command c.in-Insert.key c.in-Insert.text c.in_ok-command.ensures c.in-Insert.is)
+      c.in_ok-reply-in-Insert.was c.commit.ensures);
+  err = λ base lines replies s. tt;
+}
+
+pub returns-in_err-command : goal.returns-in_err-command
+returns-in_err-command g c = answers_err c.args.front.now c.args.self.now _ _ _ _ (search rules) refl refl refl
+
+pub returns-in_err-reply-in-Insert : goal.returns-in_err-reply-in-Insert
+returns-in_err-reply-in-Insert g c = answers_err c.args.front.now c.args.self.now _ _ _ _ (search rules) c.in_err-reply-in-Insert.ensures.memory.0 c.in_err-reply-in-Insert.ensures.memory.1 c.in_err-reply-in-Insert.ensures.memory.2

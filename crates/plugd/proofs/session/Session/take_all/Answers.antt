@@ -1,0 +1,22 @@
+use Rattle.std.proofs.Common.{rules, ◌++◌, take, refl, arith, length-append}
+use Rattle.std.proofs.lemmas.List.{length-take-le}
+use Rattle.plugd.proofs.SessionLemmas.{takes_err, starved_within}
+use Rattle.plugd.proofs.session.Session.take_all.Goals as goal
+
+pub take-requires : goal.take-requires
+take-requires g c =
+    let i = c.loop-byte.byte-index in
+    let bytes = c.args.bytes.now in (
+      c.requires.0,
+      c.requires.1 ++ take i bytes,
+      c.requires.2,
+      c.loop-byte.invariant c.requires.0 c.requires.1 c.requires.2 c.requires.3,
+      omega (arith, c.loop-byte-test.true, c.requires.4, length-append c.requires.1 (take i bytes), length-take-le i bytes (omega (arith, c.loop-byte-test.true))),
+    )
+
+pub returns-in_err-take : goal.returns-in_err-take
+returns-in_err-take g c =
+    let i = c.loop-byte.byte-index in
+    let bytes = c.args.bytes.now in
+    takes_err bytes c.args.self.now _ _ _ _ (search rules) (λ base taken spoken s.
+    starved_within base taken bytes spoken i _ _ _ (omega (arith, c.loop-byte-test.true)) refl (c.in_err-take.ensures.err base (taken ++ take i bytes) spoken (c.loop-byte.invariant base taken spoken s)))

@@ -1,0 +1,15 @@
+pub mod DirStorage
+pub mod Command
+pub mod Line
+pub mod Reply
+pub mod Xids
+pub mod Lines
+pub mod Play
+pub mod Crash
+pub mod XidSet
+pub mod LogOne
+pub mod Commit
+pub mod Serve
+pub mod Session
+pub mod Piece
+pub mod Run

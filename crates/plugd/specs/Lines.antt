@@ -1,0 +1,40 @@
+-- The lines of the input. (This project.)
+use Rattle.std.specs.Prelude.{◌≡◌, ◌≢◌, ℕ, List, [], ◌∷◌, ◌++◌}
+
+-- no line feed stands in these bytes
+abbrev pub HasNoFeed : List ℕ → Type 0
+HasNoFeed [] = Unit {0}
+HasNoFeed (byte ∷ bytes) = (byte ≢ 10) × HasNoFeed bytes
+
+abbrev pub AreLines : List (List ℕ) → Type 0
+AreLines [] = Unit {0}
+AreLines (line ∷ lines) = HasNoFeed line × AreLines lines
+
+-- each line, and its line feed
+abbrev pub joined : List (List ℕ) → List ℕ
+joined [] = []
+joined (line ∷ lines) = line ++ 10 ∷ joined lines
+
+-- the bytes are these lines, each ended by a line feed, and then one that is not ended
+pub record Splits (bytes : List ℕ) (lines : List (List ℕ)) (rest : List ℕ) : Type 0 where
+  pub spelt : bytes ≡ joined lines ++ rest
+  pub lines_are : AreLines lines
+  pub is_open : HasNoFeed rest
+
+-- what ends a line that the input's end leaves open: a carriage return and a line feed, so that one that stands there counts
+abbrev pub closing : List ℕ → List ℕ
+closing [] = []
+closing (byte ∷ bytes) = 13 ∷ 10 ∷ []
+
+-- the lines of a whole input: its last line needs no line feed, but is none where it is empty
+pub record AreAll (bytes : List ℕ) (lines : List (List ℕ)) : Type 0 where
+  pub ended : List (List ℕ)
+  pub rest : List ℕ
+  pub splits : Splits bytes ended rest
+  pub all : Splits (bytes ++ closing rest) lines []
+
+-- the first lines of an input
+pub record AreFirst (bytes : List ℕ) (lines : List (List ℕ)) : Type 0 where
+  pub lines_are : AreLines lines
+  pub more : List ℕ
+  pub spelt : bytes ++ 13 ∷ 10 ∷ [] ≡ joined lines ++ more

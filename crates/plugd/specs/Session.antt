@@ -1,0 +1,115 @@
+-- Where a session stands after some bytes of the input, and how it ends. (This project.)
+use Rattle.std.specs.Prelude.{◌≡◌, ◌≤◌, ◌<◌, ◌+◌, ℕ, List, [], ◌++◌, length, take, flat_map, Option, Some, Result, OnOk, OnErr}
+use Rattle.std.specs.declared.alloc.AllocError.{AllocError}
+use Rattle.fault_counts.specs.Rose.{Rose}
+use Rattle.disk_model.specs.Disk.{Disk}
+use Rattle.outer_io.specs.Ends.{Took, Put, PutFront}
+use Rattle.plugd.specs.declared.server.Server.{Server}
+use Rattle.plugd.specs.declared.play.Ending.{Ending}
+use Rattle.plugd.specs.declared.play.Ending.TheVariants.{EndOfInput, SourceFailed, SinkFailed, TooLong, OutOfMemory}
+use Rattle.plugd.specs.declared.reply.Reply.{Reply}
+use Rattle.plugd.specs.declared.session.Session.{Session}
+use Rattle.plugd.specs.Lines.{AreLines, joined, Splits, AreAll, AreFirst}
+use Rattle.plugd.specs.Reply.{text_of}
+use Rattle.plugd.specs.Serve.{Base, Serving, Halts}
+
+-- the longest input, in bytes
+abbrev pub input_limit : ℕ
+input_limit = 16777216
+
+-- Each whole line of what was taken was played, the first bytes of the open one are kept, and the texts of the replies are what was
+-- spoken and what is still to be.
+pub record Standing (base : Base) (taken spoken : List ℕ) (session : Session) (disk : Disk) : Type 0 where
+  pub lines : List (List ℕ)
+  pub rest : List ℕ
+  pub replies : List Reply
+  pub splits : Splits taken lines rest
+  pub front : session.front.items ≡ take 64 rest
+  pub serving : Serving base lines replies session.server disk
+  pub texts : flat_map text_of replies ≡ spoken ++ session.replies.items
+
+-- There was no memory to go on: first lines of what was taken were played, and the first texts are there.
+pub record Starved (base : Base) (taken spoken : List ℕ) (session : Session) (disk : Disk) : Type 0 where
+  pub lines : List (List ℕ)
+  pub replies : List Reply
+  pub lines_are : AreLines lines
+  pub more : List ℕ
+  pub spelt : taken ≡ joined lines ++ more
+  pub halts : Halts base lines replies session.server disk
+  pub untold : List ℕ
+  pub texts : flat_map text_of replies ≡ (spoken ++ session.replies.items) ++ untold
+
+-- it stands after some bytes, and there is room for so many more
+abbrev pub IsStanding : Session → Disk → ℕ → Type 0
+IsStanding session disk room = (base : Base) × (taken : List ℕ) × (spoken : List ℕ) × Standing base taken spoken session disk × (length taken + room < 4294967296)
+
+-- it took these bytes
+pub record Takes (bytes : List ℕ) (old new : Session) (result : Result Unit AllocError) (start end : Disk) : Type 0 where
+  pub ok : (base : Base) (taken spoken : List ℕ) → Standing base taken spoken old start → OnOk result (Standing base (taken ++ bytes) spoken new end)
+  pub err : (base : Base) (taken spoken : List ℕ) → Standing base taken spoken old start → OnErr result (Starved base (taken ++ bytes) spoken new end)
+
+-- the outside: the disk, what is left to read and what was written, where that is told, and the counts of faults
+pub record World : Type 0 where
+  pub disk : Disk
+  pub left : Option (List ℕ)
+  pub held : Option (List ℕ)
+  pub source_faults : ℕ
+  pub sink_faults : ℕ
+
+-- the counts of faults of source and sink go on
+pub record FaultsGoOn (old new : World) : Type 0 where
+  pub source : old.source_faults ≤ new.source_faults
+  pub sink : old.sink_faults ≤ new.sink_faults
+
+-- a session that has read these bytes since the start, played them and written all replies
+pub record Reading (base : Base) (start : World) (taken : List ℕ) (session : Session) (world : World) : Type 0 where
+  pub spoken : List ℕ
+  pub standing : Standing base taken spoken session world.disk
+  pub all_told : session.replies.items ≡ []
+  pub took : Took taken start.left world.left
+  pub put : Put spoken start.held world.held
+  pub faults : FaultsGoOn start world
+
+-- which lines of the input were played, by how the run ended
+abbrev pub Played : Ending → List ℕ → List (List ℕ) → Type 0
+Played EndOfInput read lines = (length read ≤ input_limit) × AreAll read lines
+Played SourceFailed read lines = (length read ≤ input_limit) × (rest : List ℕ) × Splits read lines rest
+Played SinkFailed read lines = AreFirst read lines
+Played TooLong read lines = (input_limit < length read) × (rest : List ℕ) × Splits (take input_limit read) lines rest
+Played OutOfMemory read lines = AreFirst read lines
+
+-- which texts were written
+abbrev pub Told : Ending → List ℕ → Option (List ℕ) → Option (List ℕ) → Type 0
+Told EndOfInput texts old new = Put texts old new
+Told SourceFailed texts old new = Put texts old new
+Told SinkFailed texts old new = PutFront texts old new
+Told TooLong texts old new = Put texts old new
+Told OutOfMemory texts old new = PutFront texts old new
+
+-- why it ended
+abbrev pub HasReason : Ending → World → World → Type 0
+HasReason EndOfInput old new = (xs : List ℕ) → old.left ≡ Some xs → new.left ≡ Some []
+HasReason SourceFailed old new = Rose old.source_faults new.source_faults
+HasReason SinkFailed old new = Rose old.sink_faults new.sink_faults
+HasReason TooLong old new = Unit {0}
+HasReason OutOfMemory old new = Unit {0}
+
+-- the end of the input, or of what could be played of it
+pub record Ends (base : Base) (start : World) (ending : Ending) (server : Server) (world : World) : Type 0 where
+  pub read : List ℕ
+  pub lines : List (List ℕ)
+  pub replies : List Reply
+  pub took : Took read start.left world.left
+  pub played : Played ending read lines
+  pub halts : Halts base lines replies server world.disk
+  pub told : Told ending (flat_map text_of replies) start.held world.held
+  pub reason : HasReason ending start world
+  pub faults : FaultsGoOn start world
+
+-- it reads on, and the input may have so many bytes more
+abbrev pub IsReading : Session → World → ℕ → Type 0
+IsReading session world room = (base : Base) × (start : World) × (taken : List ℕ) × Reading base start taken session world × (length taken + room ≡ input_limit)
+
+-- it has read nothing yet
+abbrev pub IsFresh : Session → World → Type 0
+IsFresh session world = (base : Base) × (start : World) × Reading base start [] session world

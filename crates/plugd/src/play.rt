@@ -1,0 +1,132 @@
+//! Reading the input piece by piece, playing its lines, and writing their replies.
+//!
+//! All replies to what was read are written before the next read, so that a client that waits for them is answered.
+ghost use Rattle.std.specs.Prelude.{◌≡◌, ◌≤◌, ◌<◌, ◌+◌, [], ℕ, List, length};
+ghost use Rattle.disk_model.specs.Disk.{Disk};
+ghost use Rattle.plugd.specs.Session.{input_limit, IsStanding, IsReading, IsFresh, Ends, World, Reading};
+ghost use Rattle.plugd.specs.Piece.{PlaysBytes, Closes, PlaysPiece, PlaysAll};
+ghost use Rattle.plugd.specs.Serve.{Base};
+
+use crate::session::Session;
+use disk_model::Storage;
+use outer_io::{Sink, Source};
+
+/// The longest input, in bytes. (This project's own.)
+pub const INPUT_LIMIT: usize = 16_777_216;
+
+// How many bytes are read at once.
+pub(crate) const PIECE: usize = 16_384;
+
+/// Why no more input is read.
+#[derive(Clone, Copy, Debug, PartialEq, Eq)]
+pub enum Ending {
+    /// All of it was read.
+    EndOfInput,
+    /// A read failed.
+    SourceFailed,
+    /// A write failed.
+    SinkFailed,
+    /// The input has more than 16,777,216 bytes.
+    TooLong,
+    /// Want of memory.
+    OutOfMemory,
+}
+
+// Plays these bytes and writes the replies. For want of memory the replies so far are written as far as the sink takes them.
+fn play_bytes<K: Sink>(
+    session: &mut Session,
+    volume: &mut dyn Storage,
+    sink: &mut K,
+    bytes: &[u8],
+) -> Result<(), Ending>
+    requires { IsStanding session.old (disk volume.old) (length bytes.now) }
+    ensures { PlaysBytes bytes.now session.old session.new result (disk volume.old) (disk volume.new)
+        (record { before = K.held sink.old; after = K.held sink.new; faults = K.sink_faults sink.old; faults_after = K.sink_faults sink.new }) }
+{
+    if session.take_all(volume, bytes).is_err() {
+        let _ = session.flush(sink);
+        return Err(Ending::OutOfMemory);
+    }
+    match session.flush(sink) {
+        Ok(()) => Ok(()),
+        Err(_) => Err(Ending::SinkFailed),
+    }
+}
+
+// Plays the line that the input's end leaves open.
+fn close<K: Sink>(
+    session: &mut Session,
+    volume: &mut dyn Storage,
+    sink: &mut K,
+) -> Result<(), Ending>
+    requires { IsStanding session.old (disk volume.old) 2 }
+    ensures { Closes session.old session.new result (disk volume.old) (disk volume.new)
+        (record { before = K.held sink.old; after = K.held sink.new; faults = K.sink_faults sink.old; faults_after = K.sink_faults sink.new }) }
+{
+    if session.front.is_empty() {
+        return Ok(());
+    }
+    play_bytes(session, volume, sink, b"\r\n")
+}
+
+// Plays the next piece of an input that may have `room` bytes more, and tells how many bytes it had.
+fn play_piece<S: Source, K: Sink>(
+    session: &mut Session,
+    volume: &mut dyn Storage,
+    source: &mut S,
+    sink: &mut K,
+    buf: &mut [u8],
+    room: usize,
+) -> Result<usize, Ending>
+    requires reading { IsReading session.old
+        (record { disk = disk volume.old; left = S.left source.old; held = K.held sink.old; source_faults = S.source_faults source.old; sink_faults = K.sink_faults sink.old }) room }
+    requires piece { 0 < length buf.old }
+    ensures { PlaysPiece room session.old session.new result
+        (record { disk = disk volume.old; left = S.left source.old; held = K.held sink.old; source_faults = S.source_faults source.old; sink_faults = K.sink_faults sink.old })
+        (record { disk = disk volume.new; left = S.left source.new; held = K.held sink.new; source_faults = S.source_faults source.new; sink_faults = K.sink_faults sink.new }) }
+{
+    let size = buf.len().min(room + 1);
+    let piece = &mut buf[..size];
+    let n = match source.read(piece) {
+        Ok(n) => n,
+        Err(_) => return Err(Ending::SourceFailed),
+    };
+    if n == 0 {
+        return match close(session, volume, sink) {
+            Ok(()) => Err(Ending::EndOfInput),
+            Err(ending) => Err(ending),
+        };
+    }
+    let kept = n.min(room);
+    if let Err(ending) = play_bytes(session, volume, sink, &piece[..kept]) {
+        return Err(ending);
+    }
+    if kept < n {
+        return Err(Ending::TooLong);
+    }
+    Ok(n)
+}
+
+// Plays the whole input.
+pub(crate) fn play_all<S: Source, K: Sink>(
+    session: &mut Session,
+    volume: &mut dyn Storage,
+    source: &mut S,
+    sink: &mut K,
+    buf: &mut [u8],
+) -> Ending
+    requires reading { IsFresh session.old
+        (record { disk = disk volume.old; left = S.left source.old; held = K.held sink.old; source_faults = S.source_faults source.old; sink_faults = K.sink_faults sink.old }) }
+    requires piece { 0 < length buf.old }
+    ensures { PlaysAll session.old session.new result
+        (record { disk = disk volume.old; left = S.left source.old; held = K.held sink.old; source_faults = S.source_faults source.old; sink_faults = K.sink_faults sink.old })
+        (record { disk = disk volume.new; left = S.left source.new; held = K.held sink.new; source_faults = S.source_faults source.new; sink_faults = K.sink_faults sink.new }) }
+{
+    let mut room = INPUT_LIMIT;
+    loop {
+        match play_piece(session, volume, source, sink, buf, room) {
+            Ok(n) => room -= n,
+            Err(ending) => return ending,
+        }
+    }
+}

@@ -1,0 +1,161 @@
+//! One run of the server over a volume: the log is opened, the input is played, and the end has one status.
+ghost use Rattle.std.specs.Prelude.{◌≡◌, ◌≤◌, ◌↔◌, ℕ, List, [], IsTrue};
+ghost use Rattle.disk_model.specs.Disk.{Disk};
+ghost use Rattle.disk_model.specs.Object.{object};
+ghost use Rattle.plugd.specs.Run.{Ended, IsPlay, IsStatus, Begins, fault_status};
+
+use crate::ack::Ack;
+use crate::play::{Ending, PIECE, play_all};
+use crate::server::Server;
+use crate::session::Session;
+use crate::xids::XidSet;
+use binlog_file::{Binlog, BinlogFault};
+use disk_model::{Storage, Volume};
+use outer_io::{Sink, Source};
+use std::alloc::Global;
+use std::mem;
+
+/// The longest log, in bytes. (This project's own.)
+pub const LOG_LIMIT: u32 = 2_147_483_647;
+
+/// How a run ended.
+#[derive(Clone, Copy, Debug, PartialEq, Eq)]
+pub enum Status {
+    /// All lines were played.
+    Ok,
+    /// The words are not the one word `play`; `place` is 0.
+    Usage { place: usize },
+    /// This file of the volume has more than 32 bytes and no valid header.
+    NotAVolume { file: u32 },
+    /// The device failed.
+    Device,
+    /// A read of the input failed.
+    SourceFault,
+    /// A write of the replies failed.
+    SinkFault,
+    /// The input has more than 16,777,216 bytes.
+    InputTooLong,
+    /// Want of memory.
+    NoMemory,
+}
+
+/// How a run ended, and each transaction that it acknowledged.
+#[derive(Drop)]
+pub struct Outcome {
+    pub status: Status,
+    pub acks: Vec<Ack>,
+}
+
+fn status_of(ending: Ending, halted: bool) -> Status
+    ensures { IsStatus ending halted result }
+{
+    match ending {
+        Ending::OutOfMemory => Status::NoMemory,
+        _ if halted => Status::Device,
+        Ending::EndOfInput => Status::Ok,
+        Ending::SourceFailed => Status::SourceFault,
+        Ending::SinkFailed => Status::SinkFault,
+        Ending::TooLong => Status::InputTooLong,
+    }
+}
+
+fn status_of_fault(fault: BinlogFault) -> Status
+    ensures { result ≡ fault_status fault }
+{
+    match fault {
+        BinlogFault::NotAVolume { file } => Status::NotAVolume { file },
+        BinlogFault::Device => Status::Device,
+        BinlogFault::Memory => Status::NoMemory,
+    }
+}
+
+// Opens the log for a session.
+fn open_session(alloc: Global, volume: &mut dyn Storage, limit: u32) -> Result<Session, BinlogFault>
+    requires { limit ≤ 2147483647 }
+    ensures { Begins limit result (disk volume.old) (disk volume.new) }
+{
+    let mut xids = XidSet::new(alloc);
+    let opened = Binlog::open(alloc, volume, &mut xids)?;
+    let server = Server {
+        alloc,
+        log: opened.log,
+        xids,
+        acks: Vec::new(alloc),
+        spelling: Vec::new(alloc),
+        lines: 0,
+        limit,
+        halted: false,
+    };
+    Ok(Session {
+        server,
+        front: Vec::new(alloc),
+        replies: Vec::new(alloc),
+    })
+}
+
+// Whether the words ask for a run.
+fn is_play(words: &[String]) -> bool
+    ensures { IsTrue result ↔ IsPlay words.now }
+{
+    match words {
+        [word] => word.as_str() == "play",
+        _ => false,
+    }
+}
+
+// The run over a volume that is lent.
+pub(crate) fn run_over<S: Source, K: Sink>(
+    alloc: Global,
+    words: &[String],
+    source: &mut S,
+    sink: &mut K,
+    volume: &mut dyn Storage,
+    limit: u32,
+) -> Outcome
+    requires { limit ≤ 2147483647 }
+    ensures { Ended limit words.now
+        (record { disk = disk volume.old; left = S.left source.old; held = K.held sink.old; source_faults = S.source_faults source.old; sink_faults = K.sink_faults sink.old })
+        result.status result.acks.items
+        (record { disk = disk volume.new; left = S.left source.new; held = K.held sink.new; source_faults = S.source_faults source.new; sink_faults = K.sink_faults sink.new }) }
+{
+    if !is_play(words) {
+        return Outcome {
+            status: Status::Usage { place: 0 },
+            acks: Vec::new(alloc),
+        };
+    }
+    let mut session = match open_session(alloc, volume, limit) {
+        Ok(session) => session,
+        Err(fault) => {
+            return Outcome {
+                status: status_of_fault(fault),
+                acks: Vec::new(alloc),
+            };
+        }
+    };
+    let mut buf = [0; PIECE];
+    let ending = play_all(&mut session, volume, source, sink, &mut buf);
+    Outcome {
+        status: status_of(ending, session.server.halted),
+        acks: mem::replace(&mut session.server.acks, Vec::new(alloc)),
+    }
+}
+
+/// Runs the server over a volume: the one word `play` opens the log in file 0 and plays the lines of the input. Each reply is written
+/// before more is read. The volume comes back as the run left it.
+pub fn run<S: Source, K: Sink>(
+    alloc: Global,
+    words: &[String],
+    source: &mut S,
+    sink: &mut K,
+    volume: Volume,
+) -> (Outcome, Volume)
+    ensures { Ended 2147483647 words.now
+        (record { disk = disk (object volume.storage); left = S.left source.old; held = K.held sink.old; source_faults = S.source_faults source.old; sink_faults = K.sink_faults sink.old })
+        (result.0).status (result.0).acks.items
+        (record { disk = disk (object (result.1).storage); left = S.left source.new; held = K.held sink.new; source_faults = S.source_faults source.new; sink_faults = K.sink_faults sink.new }) }
+{
+    let mut volume = volume;
+    let outcome = run_over(alloc, words, source, sink, &mut *volume.storage, LOG_LIMIT);
+    (outcome, volume)
+}
