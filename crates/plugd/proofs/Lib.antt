@@ -12,3 +12,4 @@ pub mod SessionLemmas
 pub mod PieceLemmas
 pub mod ReadLemmas
 pub mod BeginLemmas
+pub mod LawLemmas

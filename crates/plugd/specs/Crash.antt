@@ -1,5 +1,5 @@
 -- What a crash at any moment leaves of the log, and of what was acknowledged. (This project.)
-use Rattle.std.specs.Prelude.{◌≡◌, ◌⊎◌, ◌+◌, ◌≤◌, ℕ, List, [], ◌∷◌, ◌++◌, length, map, take, None, option_to_list}
+use Rattle.std.specs.Prelude.{◌≡◌, ◌⊎◌, ◌+◌, ◌≤◌, ℕ, List, [], ◌∷◌, ◌++◌, length, map, take, None, option_to_list, IsTrue}
 use Rattle.disk_model.specs.File.{File, IsImage}
 use Rattle.disk_model.specs.Disk.{Disk, now, contents, Keeps, Only}
 use Rattle.framed_file.specs.Framed.{IsFaithful}
@@ -23,6 +23,10 @@ EachRecoverable file = (image : List ℕ) → IsImage file image → IsFaithful 
 pub record IsRecoverableVolume (disk : Disk) : Type 0 where
   pub contents_are : IsRecoverable (contents disk 0)
   pub images_are : EachRecoverable (now disk 0)
+
+-- some calls keep a volume that can be opened so: at each moment of them each faithful crash image of the log file is recoverable
+abbrev pub StaysRecoverable : Disk → Disk → Type 0
+StaysRecoverable start end = IsTrue start.told → IsRecoverableVolume start → (m : ℕ) → start.calls ≤ m → m ≤ end.calls → EachRecoverable (end.at m 0)
 
 -- the log file is as it was at the start, or each faithful crash image of it is between two lists
 abbrev pub StandsIn : File → List Transaction → List Transaction → File → Type 0

@@ -13,6 +13,8 @@ mod reply;
 mod run;
 mod server;
 mod session;
+#[cfg(test)]
+mod tests;
 mod xids;
 
 use crate::dir_storage::{DirStorage, OpenDir, lock_folder};

@@ -2,6 +2,7 @@
 ghost use Rattle.std.specs.Prelude.{◌≡◌, ◌≤◌, ◌↔◌, ℕ, List, [], IsTrue};
 ghost use Rattle.disk_model.specs.Disk.{Disk};
 ghost use Rattle.disk_model.specs.Object.{object};
+ghost use Rattle.plugd.specs.Crash.{StaysRecoverable};
 ghost use Rattle.plugd.specs.Run.{Ended, IsPlay, IsStatus, Begins, fault_status};
 
 use crate::ack::Ack;
@@ -150,10 +151,13 @@ pub fn run<S: Source, K: Sink>(
     sink: &mut K,
     volume: Volume,
 ) -> (Outcome, Volume)
-    ensures { Ended 2147483647 words.now
+    ensures ended { Ended 2147483647 words.now
         (record { disk = disk (object volume.storage); left = S.left source.old; held = K.held sink.old; source_faults = S.source_faults source.old; sink_faults = K.sink_faults sink.old })
         (result.0).status (result.0).acks.items
         (record { disk = disk (object (result.1).storage); left = S.left source.new; held = K.held sink.new; source_faults = S.source_faults source.new; sink_faults = K.sink_faults sink.new }) }
+
+    // A crash at any moment leaves a volume that can be opened, where there was one.
+    ensures recoverable { StaysRecoverable (disk (object volume.storage)) (disk (object (result.1).storage)) }
 {
     let mut volume = volume;
     let outcome = run_over(alloc, words, source, sink, &mut *volume.storage, LOG_LIMIT);
