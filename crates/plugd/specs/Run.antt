@@ -1,5 +1,5 @@
 -- How a whole run ends. (This project.)
-use Rattle.std.specs.Prelude.{◌≡◌, ◌≢◌, ◌≤◌, ℕ, Bool, true, false, List, [], ◌∷◌, length, map, codes, None, Result, Ok, Err, IsTrue}
+use Rattle.std.specs.Prelude.{◌≡◌, ◌≢◌, ◌⊎◌, ◌≤◌, ℕ, Bool, true, false, List, [], ◌∷◌, length, map, codes, Some, None, Result, Ok, Err, IsTrue}
 use Rattle.std.specs.declared.string.String.{String}
 use Rattle.std.specs.Prelude.{string_bytes}
 use Rattle.std.specs.declared.alloc.Global.{Global}
@@ -17,7 +17,8 @@ use Rattle.plugd.specs.declared.run.Status.TheVariants as status
 use Rattle.plugd.specs.declared.server.Server.{Server}
 use Rattle.plugd.specs.declared.session.Session.{Session}
 use Rattle.plugd.specs.Serve.{Base, Serving}
-use Rattle.plugd.specs.Session.{World, Ends}
+use Rattle.plugd.specs.Crash.{IsRecoverableVolume}
+use Rattle.plugd.specs.Session.{input_limit, World, Ends}
 
 -- the one word of a run
 abbrev pub IsPlay : List (String Global) → Type 0
@@ -78,3 +79,10 @@ pub data Ended (limit : ℕ) (words : List (String Global)) (start : World) (ans
   -- the input was played
   played : IsPlay words → (base : Base) → IsBase limit start.disk base → (ending : Ending) → (server : Server) → Ends base start ending server end
       → acks ≡ server.acks.items → IsStatus ending server.halted answer → Ended limit words start answer acks end
+
+-- Over a volume that can be opened, where no count of faults rose and the input is not too long, a run is Ok or found no memory.
+abbrev pub IsComplete : List (String Global) → World → World → Status → Type 0
+IsComplete words start end answer = IsPlay words → IsTrue start.disk.told → IsRecoverableVolume start.disk
+    → (xs : List ℕ) → start.left ≡ Some xs → length xs ≤ input_limit
+    → (Rose start.disk.faults end.disk.faults → ⊥) → (Rose start.source_faults end.source_faults → ⊥) → (Rose start.sink_faults end.sink_faults → ⊥)
+    → (answer ≡ status.Ok) ⊎ (answer ≡ status.NoMemory)

@@ -3,7 +3,7 @@ ghost use Rattle.std.specs.Prelude.{◌≡◌, ◌≤◌, ◌↔◌, ℕ, List, 
 ghost use Rattle.disk_model.specs.Disk.{Disk};
 ghost use Rattle.disk_model.specs.Object.{object};
 ghost use Rattle.plugd.specs.Crash.{StaysRecoverable};
-ghost use Rattle.plugd.specs.Run.{Ended, IsPlay, IsStatus, Begins, fault_status};
+ghost use Rattle.plugd.specs.Run.{Ended, IsComplete, IsPlay, IsStatus, Begins, fault_status};
 
 use crate::ack::Ack;
 use crate::play::{Ending, PIECE, play_all};
@@ -155,6 +155,12 @@ pub fn run<S: Source, K: Sink>(
         (record { disk = disk (object volume.storage); left = S.left source.old; held = K.held sink.old; source_faults = S.source_faults source.old; sink_faults = K.sink_faults sink.old })
         (result.0).status (result.0).acks.items
         (record { disk = disk (object (result.1).storage); left = S.left source.new; held = K.held sink.new; source_faults = S.source_faults source.new; sink_faults = K.sink_faults sink.new }) }
+
+    // Where nothing failed, it is Ok or found no memory.
+    ensures complete { IsComplete words.now
+        (record { disk = disk (object volume.storage); left = S.left source.old; held = K.held sink.old; source_faults = S.source_faults source.old; sink_faults = K.sink_faults sink.old })
+        (record { disk = disk (object (result.1).storage); left = S.left source.new; held = K.held sink.new; source_faults = S.source_faults source.new; sink_faults = K.sink_faults sink.new })
+        (result.0).status }
 
     // A crash at any moment leaves a volume that can be opened, where there was one.
     ensures recoverable { StaysRecoverable (disk (object volume.storage)) (disk (object (result.1).storage)) }

@@ -3,7 +3,7 @@ ghost use Rattle.std.specs.Prelude.{◌≤◌};
 
 use crate::ack::Ack;
 use crate::run::{LOG_LIMIT, Outcome, Status, run_over};
-use disk_model::{Choice, Failed, FileBytes, MemoryStorage, Storage};
+use disk_model::{Choice, Failed, FileBytes, MemoryStorage, Storage, Veiled};
 use outer_io::{MemorySink, MemorySource};
 use std::alloc::{AllocError, Global};
 use std::test::Fail;
@@ -245,5 +245,15 @@ fn crash_images_have_what_was_acknowledged(rt: HostRuntime) -> Result<(), Fail> 
             assert!(rt; part > known, "{n} bytes at {moment}");
         }
     }
+    Ok(())
+}
+
+#[test]
+fn a_volume_that_tells_nothing_gives_the_same_replies(rt: HostRuntime) -> Result<(), Fail> {
+    let alloc = rt.alloc();
+    let mut storage = Veiled::new(fresh(alloc, Vec::new(alloc))?);
+    let (outcome, replies) = played(alloc, &mut storage, TWO, 4_096)?;
+    assert_eq!(rt; outcome.status, Status::Ok);
+    assert!(rt; replies.as_slice() == b"1 ok 1 #1\n1 ok 1 #2\n".as_slice());
     Ok(())
 }
