@@ -4,6 +4,7 @@ use Rattle.disk_model.specs.File.{File, IsMeant, IsImage}
 use Rattle.frame_codec.specs.Frame.{Event, size_of, frame_of, IsFrameAt}
 use Rattle.frame_codec.specs.Chain.{chain_of, end_of, last_checksum, EndsWithin}
 
+-- the first list is a first part of the second
 abbrev pub IsPrefix : {A : Type 0} → List A → List A → Type 0
 IsPrefix {A} some all = (rest : List A) × (all ≡ some ++ rest)
 

@@ -18,7 +18,8 @@ pub trait Source: Drop {
     fn read(&mut self, buf: &mut [u8]) -> Result<usize, Failed>
         ensures took { IfOk result (λ n. Took (take n buf.new) (left self.old) (left self.new)) }
         ensures count { IfOk result (λ n. n ≤ length buf.old) }
-        ensures ended { IfOk result (λ n. n ≡ 0 → 0 < length buf.old → (xs : List ℕ) → left self.old ≡ Some xs → xs ≡ []) }
+        ensures ended { IfOk result (λ n. n ≡ 0 → 0 < length buf.old → (xs : List ℕ)
+            → left self.old ≡ Some xs → xs ≡ []) }
         ensures failed { OnErr result (left self.new ≡ left self.old) }
         ensures counts { Counts result (source_faults self.old) (source_faults self.new) };
 

@@ -70,7 +70,8 @@ impl Sink for MemorySink {
 
     fn write(&mut self, bytes: &[u8]) -> Result<usize, Failed>
         ensures writes { Writes result bytes.now self.old self.new }
-        ensures put { IfOk result (λ n. Put (take n bytes.now) (Some (self.old).held) (Some (self.new).held)) }
+        ensures put { IfOk result
+            (λ n. Put (take n bytes.now) (Some (self.old).held) (Some (self.new).held)) }
         ensures count { IfOk result (λ n. n ≤ length bytes.now) }
         ensures some { IfOk result (λ n. 0 < length bytes.now → 0 < n) }
         ensures failed { OnErr result (Some (self.new).held ≡ Some (self.old).held) }

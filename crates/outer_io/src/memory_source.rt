@@ -62,9 +62,11 @@ impl Source for MemorySource {
 
     fn read(&mut self, buf: &mut [u8]) -> Result<usize, Failed>
         ensures reads { Reads result buf.old buf.new self.old self.new }
-        ensures took { IfOk result (λ n. Took (take n buf.new) (Some (self.old).left) (Some (self.new).left)) }
+        ensures took { IfOk result
+            (λ n. Took (take n buf.new) (Some (self.old).left) (Some (self.new).left)) }
         ensures count { IfOk result (λ n. n ≤ length buf.old) }
-        ensures ended { IfOk result (λ n. n ≡ 0 → 0 < length buf.old → (xs : List ℕ) → Some (self.old).left ≡ Some xs → xs ≡ []) }
+        ensures ended { IfOk result (λ n. n ≡ 0 → 0 < length buf.old → (xs : List ℕ)
+            → Some (self.old).left ≡ Some xs → xs ≡ []) }
         ensures failed { OnErr result (Some (self.new).left ≡ Some (self.old).left) }
         ensures counts { Counts result (self.old).faults (self.new).faults }
     {

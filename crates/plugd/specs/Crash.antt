@@ -38,6 +38,7 @@ pub record IsKept (all : List Transaction) (disk : Disk) (ack : Ack) : Type 0 wh
   pub in_time : ack.call ≤ disk.calls
   pub kept : (m : ℕ) → ack.call ≤ m → m ≤ disk.calls → Holds (take ack.number all) all (disk.at m 0)
 
+-- each of these acknowledgements is kept
 abbrev pub AreKept : List Transaction → Disk → List Ack → Type 0
 AreKept all disk [] = Unit {0}
 AreKept all disk (ack ∷ acks) = IsKept all disk ack × AreKept all disk acks

@@ -6,6 +6,7 @@ abbrev pub HasNoFeed : List ℕ → Type 0
 HasNoFeed [] = Unit {0}
 HasNoFeed (byte ∷ bytes) = (byte ≢ 10) × HasNoFeed bytes
 
+-- none of these lines has a line feed in it
 abbrev pub AreLines : List (List ℕ) → Type 0
 AreLines [] = Unit {0}
 AreLines (line ∷ lines) = HasNoFeed line × AreLines lines

@@ -12,16 +12,19 @@ use std::fs::{File, OpenFile, OpenOptions, TryLockError};
 use std::io::{ErrorKind, Read, Seek, SeekFrom, Write};
 use std::rt::Files;
 use std::{fs, io};
+use thiserror::Error;
 
 // How often a read is tried that a signal interrupted.
 const TRIES: u32 = 65_536;
 
 /// Why a folder cannot be used.
-#[derive(Clone, Copy, Debug, PartialEq, Eq)]
+#[derive(Clone, Copy, Debug, PartialEq, Eq, Error)]
 pub(crate) enum OpenDir {
     /// It is not there, it is no folder, or it could not be opened.
+    #[error("the folder cannot be opened")]
     Failed,
     /// Want of memory.
+    #[error("no memory")]
     Memory,
 }
 

@@ -40,8 +40,14 @@ fn play_bytes<K: Sink>(
     bytes: &[u8],
 ) -> Result<(), Ending>
     requires { IsStanding session.old (disk volume.old) (length bytes.now) }
-    ensures { PlaysBytes bytes.now session.old session.new result (disk volume.old) (disk volume.new)
-        (record { before = K.held sink.old; after = K.held sink.new; faults = K.sink_faults sink.old; faults_after = K.sink_faults sink.new }) }
+    ensures { PlaysBytes bytes.now session.old session.new result (disk volume.old)
+        (disk volume.new)
+        (record {
+          before = K.held sink.old;
+          after = K.held sink.new;
+          faults = K.sink_faults sink.old;
+          faults_after = K.sink_faults sink.new;
+        }) }
 {
     if session.take_all(volume, bytes).is_err() {
         let _ = session.flush(sink);
@@ -61,7 +67,12 @@ fn close<K: Sink>(
 ) -> Result<(), Ending>
     requires { IsStanding session.old (disk volume.old) 2 }
     ensures { Closes session.old session.new result (disk volume.old) (disk volume.new)
-        (record { before = K.held sink.old; after = K.held sink.new; faults = K.sink_faults sink.old; faults_after = K.sink_faults sink.new }) }
+        (record {
+          before = K.held sink.old;
+          after = K.held sink.new;
+          faults = K.sink_faults sink.old;
+          faults_after = K.sink_faults sink.new;
+        }) }
 {
     if session.front.is_empty() {
         return Ok(());
@@ -79,11 +90,29 @@ fn play_piece<S: Source, K: Sink>(
     room: usize,
 ) -> Result<usize, Ending>
     requires reading { IsReading session.old
-        (record { disk = disk volume.old; left = S.left source.old; held = K.held sink.old; source_faults = S.source_faults source.old; sink_faults = K.sink_faults sink.old }) room }
+        (record {
+          disk = disk volume.old;
+          left = S.left source.old;
+          held = K.held sink.old;
+          source_faults = S.source_faults source.old;
+          sink_faults = K.sink_faults sink.old;
+        }) room }
     requires piece { 0 < length buf.old }
     ensures { PlaysPiece room session.old session.new result
-        (record { disk = disk volume.old; left = S.left source.old; held = K.held sink.old; source_faults = S.source_faults source.old; sink_faults = K.sink_faults sink.old })
-        (record { disk = disk volume.new; left = S.left source.new; held = K.held sink.new; source_faults = S.source_faults source.new; sink_faults = K.sink_faults sink.new }) }
+        (record {
+          disk = disk volume.old;
+          left = S.left source.old;
+          held = K.held sink.old;
+          source_faults = S.source_faults source.old;
+          sink_faults = K.sink_faults sink.old;
+        })
+        (record {
+          disk = disk volume.new;
+          left = S.left source.new;
+          held = K.held sink.new;
+          source_faults = S.source_faults source.new;
+          sink_faults = K.sink_faults sink.new;
+        }) }
 {
     let size = buf.len().min(room + 1);
     let piece = &mut buf[..size];
@@ -116,11 +145,29 @@ pub(crate) fn play_all<S: Source, K: Sink>(
     buf: &mut [u8],
 ) -> Ending
     requires reading { IsFresh session.old
-        (record { disk = disk volume.old; left = S.left source.old; held = K.held sink.old; source_faults = S.source_faults source.old; sink_faults = K.sink_faults sink.old }) }
+        (record {
+          disk = disk volume.old;
+          left = S.left source.old;
+          held = K.held sink.old;
+          source_faults = S.source_faults source.old;
+          sink_faults = K.sink_faults sink.old;
+        }) }
     requires piece { 0 < length buf.old }
     ensures { PlaysAll session.old session.new result
-        (record { disk = disk volume.old; left = S.left source.old; held = K.held sink.old; source_faults = S.source_faults source.old; sink_faults = K.sink_faults sink.old })
-        (record { disk = disk volume.new; left = S.left source.new; held = K.held sink.new; source_faults = S.source_faults source.new; sink_faults = K.sink_faults sink.new }) }
+        (record {
+          disk = disk volume.old;
+          left = S.left source.old;
+          held = K.held sink.old;
+          source_faults = S.source_faults source.old;
+          sink_faults = K.sink_faults sink.old;
+        })
+        (record {
+          disk = disk volume.new;
+          left = S.left source.new;
+          held = K.held sink.new;
+          source_faults = S.source_faults source.new;
+          sink_faults = K.sink_faults sink.new;
+        }) }
 {
     let mut room = INPUT_LIMIT;
     loop {

@@ -115,9 +115,21 @@ pub(crate) fn run_over<S: Source, K: Sink>(
 ) -> Outcome
     requires { limit ≤ 2147483647 }
     ensures { Ended limit words.now
-        (record { disk = disk volume.old; left = S.left source.old; held = K.held sink.old; source_faults = S.source_faults source.old; sink_faults = K.sink_faults sink.old })
+        (record {
+          disk = disk volume.old;
+          left = S.left source.old;
+          held = K.held sink.old;
+          source_faults = S.source_faults source.old;
+          sink_faults = K.sink_faults sink.old;
+        })
         result.status result.acks.items
-        (record { disk = disk volume.new; left = S.left source.new; held = K.held sink.new; source_faults = S.source_faults source.new; sink_faults = K.sink_faults sink.new }) }
+        (record {
+          disk = disk volume.new;
+          left = S.left source.new;
+          held = K.held sink.new;
+          source_faults = S.source_faults source.new;
+          sink_faults = K.sink_faults sink.new;
+        }) }
 {
     if !is_play(words) {
         return Outcome {
@@ -152,18 +164,43 @@ pub fn run<S: Source, K: Sink>(
     volume: Volume,
 ) -> (Outcome, Volume)
     ensures ended { Ended 2147483647 words.now
-        (record { disk = disk (object volume.storage); left = S.left source.old; held = K.held sink.old; source_faults = S.source_faults source.old; sink_faults = K.sink_faults sink.old })
+        (record {
+          disk = disk (object volume.storage);
+          left = S.left source.old;
+          held = K.held sink.old;
+          source_faults = S.source_faults source.old;
+          sink_faults = K.sink_faults sink.old;
+        })
         (result.0).status (result.0).acks.items
-        (record { disk = disk (object (result.1).storage); left = S.left source.new; held = K.held sink.new; source_faults = S.source_faults source.new; sink_faults = K.sink_faults sink.new }) }
+        (record {
+          disk = disk (object (result.1).storage);
+          left = S.left source.new;
+          held = K.held sink.new;
+          source_faults = S.source_faults source.new;
+          sink_faults = K.sink_faults sink.new;
+        }) }
 
     // Where nothing failed, it is Ok or found no memory.
     ensures complete { IsComplete words.now
-        (record { disk = disk (object volume.storage); left = S.left source.old; held = K.held sink.old; source_faults = S.source_faults source.old; sink_faults = K.sink_faults sink.old })
-        (record { disk = disk (object (result.1).storage); left = S.left source.new; held = K.held sink.new; source_faults = S.source_faults source.new; sink_faults = K.sink_faults sink.new })
+        (record {
+          disk = disk (object volume.storage);
+          left = S.left source.old;
+          held = K.held sink.old;
+          source_faults = S.source_faults source.old;
+          sink_faults = K.sink_faults sink.old;
+        })
+        (record {
+          disk = disk (object (result.1).storage);
+          left = S.left source.new;
+          held = K.held sink.new;
+          source_faults = S.source_faults source.new;
+          sink_faults = K.sink_faults sink.new;
+        })
         (result.0).status }
 
     // A crash at any moment leaves a volume that can be opened, where there was one.
-    ensures recoverable { StaysRecoverable (disk (object volume.storage)) (disk (object (result.1).storage)) }
+    ensures recoverable { StaysRecoverable (disk (object volume.storage))
+        (disk (object (result.1).storage)) }
 {
     let mut volume = volume;
     let outcome = run_over(alloc, words, source, sink, &mut *volume.storage, LOG_LIMIT);

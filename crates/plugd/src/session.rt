@@ -53,7 +53,8 @@ impl Session {
 
     fn end_line(&mut self, volume: &mut dyn Storage) -> Result<(), AllocError>
         requires { IsStanding self.old (disk volume.old) 1 }
-        ensures takes { Takes (10 ∷ []) self.old self.new result (disk volume.old) (disk volume.new) }
+        ensures takes { Takes (10 ∷ []) self.old self.new result (disk volume.old)
+            (disk volume.new) }
         ensures empty { OnOk result (self.new.front.items ≡ []) }
     {
         let reply = self.server.answer(volume, &self.front)?;
@@ -70,7 +71,8 @@ impl Session {
         ensures front { self.new.front ≡ self.old.front }
         ensures ok { OnOk result (Put self.old.replies.items (K.held sink.old) (K.held sink.new)) }
         ensures empty { OnOk result (self.new.replies.items ≡ []) }
-        ensures err { OnErr result (PutFront self.old.replies.items (K.held sink.old) (K.held sink.new)) }
+        ensures err { OnErr result
+            (PutFront self.old.replies.items (K.held sink.old) (K.held sink.new)) }
         ensures counts { Counts result (K.sink_faults sink.old) (K.sink_faults sink.new) }
     {
         write_all(sink, &self.replies)?;

@@ -61,7 +61,8 @@ impl XidSet {
 
     /// Counts an xid as used. `AllocError` for want of memory.
     pub(crate) fn add(&mut self, xid: u64) -> Result<(), AllocError>
-        ensures added { (used : List ℕ) → Knows self.old used → OnOk result (Knows self.new (used ++ xid ∷ [])) }
+        ensures added { (used : List ℕ) → Knows self.old used
+            → OnOk result (Knows self.new (used ++ xid ∷ [])) }
         ensures kept { (used : List ℕ) → Knows self.old used → OnErr result (Knows self.new used) }
     {
         if self.current.last < u64::MAX && xid == self.current.last + 1 {
@@ -103,7 +104,8 @@ impl XidSet {
 
     // The last number of a range that holds the xid.
     fn last_beside(&self, xid: u64) -> Option<u64>
-        ensures { MatchOption result (HasXid self.now xid → ⊥) (λ last. (xid ≤ last) × HasUpTo self.now xid last) }
+        ensures { MatchOption result (HasXid self.now xid → ⊥)
+            (λ last. (xid ≤ last) × HasUpTo self.now xid last) }
     {
         if self.current.holds(xid) {
             return Some(self.current.last);
