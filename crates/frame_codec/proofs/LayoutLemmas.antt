@@ -58,3 +58,18 @@ frame_put prev at sum event old header lent is_lent is_header is_sum =
     ap (λ bytes. bytes ++ le32 sum) (is_lent ∙ append_assoc old header event.body) ∙ append_assoc old (header ++ event.body) (le32 sum)
     ∙ ap (λ bytes. old ++ (bytes ++ le32 sum)) (ap (λ bytes. bytes ++ event.body) is_header ∙ sym (front_of-header at event))
     ∙ ap (λ n. old ++ (front_of at event ++ le32 n)) is_sum
+
+-- ---- in an array
+
+-- the array begins with the front of the frame where its header and then its body were put
+pub front_in_array : (at size : ℕ) (event : Event) (header one two : List ℕ) → size ≡ size_of event → header ≡ header_of event.kind size (at + size)
+    → take 19 one ≡ header → take (19 + length event.body) two ≡ take 19 one ++ event.body → take (19 + length event.body) two ≡ front_of at event
+front_in_array at size event header one two size_is header_is first second =
+    second ∙ ap (λ (l : List ℕ). l ++ event.body) (first ∙ header_is ∙ ap (λ (n : ℕ). header_of event.kind n (at + n)) size_is) ∙ sym (front_of-header at event)
+
+-- and with the frame where the checksum was put behind it
+pub frame_in_array : (prev at n sum : ℕ) (event : Event) (two three tail : List ℕ) → n ≡ 19 + length event.body → take n two ≡ front_of at event → sum ≡ checksum_of prev at event → tail ≡ le32 sum
+    → take (n + 4) three ≡ take n two ++ tail → take (n + 4) three ≡ frame_of prev at event
+unfolding frame_of
+frame_in_array prev at n sum event two three tail n_is front sum_is tail_is third =
+    third ∙ ap (λ (l : List ℕ). l ++ tail) front ∙ ap (λ (l : List ℕ). front_of at event ++ l) (tail_is ∙ ap le32 sum_is)

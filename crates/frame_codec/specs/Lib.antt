@@ -5,3 +5,4 @@ pub mod Frame
 pub mod Header
 pub mod Chain
 pub mod Read
+pub mod Short

@@ -8,6 +8,7 @@ mod checksum;
 mod header;
 mod laws;
 mod read;
+mod short;
 mod tables;
 #[cfg(test)]
 mod tests;
@@ -16,4 +17,5 @@ mod write;
 pub use checksum::crc;
 pub use laws::{crc_goes_on, one_event_at_a_place};
 pub use read::{Frame, frame_at};
-pub use write::put_frame;
+pub use short::ShortFrame;
+pub use write::{put_frame, short_frame};

@@ -1,9 +1,11 @@
-//! Appending the frame of an event.
-ghost use Rattle.std.specs.Prelude.{◌≡◌, ◌≤◌, ◌+◌, ◌++◌, length, OnOk, OnErr, IfOk};
+//! Writing the frame of an event: at the end of some bytes, or in an array.
+ghost use Rattle.std.specs.Prelude.{◌≡◌, ◌≤◌, ◌+◌, ◌++◌, length, take, OnOk, OnErr, IfOk};
 ghost use Rattle.frame_codec.specs.Frame.{frame_of, checksum_of};
+ghost use Rattle.frame_codec.specs.Short.{short_bytes};
 
 use crate::checksum::crc;
 use crate::header::{CHECKSUM_LEN, HEADER_LEN, header};
+use crate::short::{SHORT_LEN, ShortFrame};
 use std::alloc::AllocError;
 
 /// Appends the frame of an event of the type `kind` to `out`, for the file position `at` behind a frame with the checksum `prev`,
@@ -30,4 +32,31 @@ pub fn put_frame(
     let sum = crc(prev, &out[start..]);
     out.extend_from_slice(&sum.to_le_bytes())?;
     Ok(sum)
+}
+
+// Puts a piece at a place of the array.
+fn put_at(bytes: &mut [u8; SHORT_LEN], at: usize, piece: &[u8])
+    requires { at + length piece.now ≤ 39 }
+    ensures { take (at + length piece.now) bytes.new ≡ take at bytes.old ++ piece.now }
+{
+    bytes[at..at + piece.len()].copy_from_slice(piece);
+}
+
+/// The frame of an event of the type `kind` with a body of at most 16 bytes, for the file position `at` behind a frame with the
+/// checksum `prev`. No memory is taken.
+pub fn short_frame(prev: u32, at: u32, kind: u8, body: &[u8]) -> ShortFrame
+    requires short { length body.now ≤ 16 }
+    requires room { at + 23 + length body.now ≤ 2147483647 }
+    ensures bytes { short_bytes result
+        ≡ frame_of prev at (record { kind = kind; body = body.now }) }
+    ensures crc { result.crc ≡ checksum_of prev at (record { kind = kind; body = body.now }) }
+{
+    let body_end = HEADER_LEN + body.len();
+    let len = body_end + CHECKSUM_LEN;
+    let mut bytes = [0; SHORT_LEN];
+    put_at(&mut bytes, 0, &header(kind, len as u32, at + len as u32));
+    put_at(&mut bytes, HEADER_LEN, body);
+    let crc = crc(prev, &bytes[..body_end]);
+    put_at(&mut bytes, body_end, &crc.to_le_bytes());
+    ShortFrame { bytes, len, crc }
 }
