@@ -1,6 +1,7 @@
 pub mod File
 pub mod Disk
 pub mod Grew
+pub mod Looking
 pub mod Held
 pub mod Past
 pub mod Memory
@@ -11,4 +12,5 @@ pub mod Fresh
 pub mod Veil
 pub mod Told
 pub mod Object
+pub mod Staged
 pub use Rattle.fault_counts.specs.Rose

@@ -122,8 +122,10 @@ impl Storage for MemoryStorage {
     }
 
     fn write(&mut self, file: u32, at: u64, bytes: &[u8]) -> Result<(), Failed>
-        requires { IsTrue (memory_disk self.old).told → at ≤ length (contents (memory_disk self.old) file) }
-        ensures called { Called file (Writes at bytes.now result) result (memory_disk self.old) (memory_disk self.new) }
+        requires { IsTrue (memory_disk self.old).told
+            → at ≤ length (contents (memory_disk self.old) file) }
+        ensures called { Called file (Writes at bytes.now result) result (memory_disk self.old)
+            (memory_disk self.new) }
         ensures exactly { FailsExactly result self.old self.new }
     {
         self.counted()?;
@@ -134,8 +136,10 @@ impl Storage for MemoryStorage {
     }
 
     fn cut(&mut self, file: u32, len: u64) -> Result<(), Failed>
-        requires { IsTrue (memory_disk self.old).told → len ≤ length (contents (memory_disk self.old) file) }
-        ensures called { Called file (Cuts len result) result (memory_disk self.old) (memory_disk self.new) }
+        requires { IsTrue (memory_disk self.old).told
+            → len ≤ length (contents (memory_disk self.old) file) }
+        ensures called { Called file (Cuts len result) result (memory_disk self.old)
+            (memory_disk self.new) }
         ensures exactly { FailsExactly result self.old self.new }
     {
         self.counted()?;
@@ -146,7 +150,8 @@ impl Storage for MemoryStorage {
     }
 
     fn sync(&mut self, file: u32) -> Result<(), Failed>
-        ensures called { Called file (Syncs result) result (memory_disk self.old) (memory_disk self.new) }
+        ensures called { Called file (Syncs result) result (memory_disk self.old)
+            (memory_disk self.new) }
         ensures exactly { FailsExactly result self.old self.new }
     {
         self.counted()?;

@@ -53,7 +53,8 @@ pub(crate) fn put(
     bytes: &[u8],
 ) -> Result<(), AllocError>
     requires { at ≤ length (bytes_in (held files.old.items) file) }
-    ensures ok { OnOk result (held files.new.items ≡ write_in file at bytes.now (held files.old.items)) }
+    ensures ok { OnOk result
+        (held files.new.items ≡ write_in file at bytes.now (held files.old.items)) }
     ensures err { OnErr result (held files.new.items ≡ held files.old.items) }
 {
     match place_of(files, file) {

@@ -47,7 +47,8 @@ fn replay(
     choice: Choice,
 ) -> Result<(), AllocError>
     requires { goes_on choice ≡ true → call_fits call.now (held files.old.items) ≡ true }
-    ensures { OnOk result (held files.new.items ≡ part_call choice call.now.file call.now.kind (held files.old.items)) }
+    ensures { OnOk result
+        (held files.new.items ≡ part_call choice call.now.file call.now.kind (held files.old.items)) }
 {
     if !choice.goes_on() {
         return Ok(());
@@ -73,8 +74,10 @@ fn replay_next(
     later: &[Call],
     choice: Choice,
 ) -> Result<Choice, AllocError>
-    requires { (is_synced call.now.file later.now || goes_on choice) ≡ true → call_fits call.now (held files.old.items) ≡ true }
-    ensures files { OnOk result (held files.new.items ≡ after_next choice call.now later.now (held files.old.items)) }
+    requires { (is_synced call.now.file later.now || goes_on choice) ≡ true
+        → call_fits call.now (held files.old.items) ≡ true }
+    ensures files { OnOk result
+        (held files.new.items ≡ after_next choice call.now later.now (held files.old.items)) }
     ensures left { IfOk result (λ left. left ≡ choice_next choice call.now later.now) }
 {
     if is_synced_by(later, call.file) {

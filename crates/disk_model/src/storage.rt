@@ -24,20 +24,23 @@ pub trait Storage: Drop {
     /// The length of a file in bytes; `Failed` where the device failed.
     fn len(&mut self, file: u32) -> Result<u64, Failed>
         ensures called { Called file Stays result (disk self.old) (disk self.new) }
-        ensures value { IsTrue (disk self.old).told → IfOk result (λ n. n ≡ length (contents (disk self.old) file)) };
+        ensures value { IsTrue (disk self.old).told
+            → IfOk result (λ n. n ≡ length (contents (disk self.old) file)) };
 
     /// Fills `buf` from `at` on, and answers how many bytes it has. It is short only at the end of the file. `Failed` where the device
     /// failed; nothing is said of `buf` then.
     fn read(&mut self, file: u32, at: u64, buf: &mut [u8]) -> Result<usize, Failed>
         ensures called { Called file Stays result (disk self.old) (disk self.new) }
-        ensures value { IsTrue (disk self.old).told → IfOk result (λ n. Fills (contents (disk self.old) file) at buf.old n buf.new) }
+        ensures value { IsTrue (disk self.old).told
+            → IfOk result (λ n. Fills (contents (disk self.old) file) at buf.old n buf.new) }
         ensures count { IfOk result (λ n. n ≤ length buf.old) };
 
     /// Writes over what is there, and past the end. It has to begin at the length or below, where that is told. After `Failed` its range may
     /// hold any bytes.
     fn write(&mut self, file: u32, at: u64, bytes: &[u8]) -> Result<(), Failed>
         requires { IsTrue (disk self.old).told → at ≤ length (contents (disk self.old) file) }
-        ensures called { Called file (Writes at bytes.now result) result (disk self.old) (disk self.new) };
+        ensures called { Called file (Writes at bytes.now result) result (disk self.old)
+            (disk self.new) };
 
     /// Cuts a file to a length, which is at most what it has, where that is told. After `Failed` the length lies between.
     fn cut(&mut self, file: u32, len: u64) -> Result<(), Failed>
