@@ -1,0 +1,102 @@
+-- How many bytes things have.
+use Rattle.std.proofs.Common.{◌≡◌, ℕ, suc, ◌+◌, ◌≤◌, ◌<◌, cond, List, [], ◌∷◌, ◌++◌, length, Option, None, sym, ap, ◌∙◌, arith, inl, inr, length-append, get_or, drop, take, drop-cons, take-append-drop}
+use Rattle.std.specs.Prelude.{nat_le, sum_by}
+use Rattle.std.specs.List.{flat_map}
+use Rattle.std.specs.Int.{w64, cast_unsigned}
+use Rattle.std.proofs.lemmas.List.Concat.{flat_map-append}
+use Rattle.std.proofs.lemmas.List.Sums.{sum_by-cons, sum_by-append}
+use Rattle.std.proofs.lemmas.Bool.{cases_Bool, leb-true, cond-true, cond-false}
+use Rattle.frame_codec.specs.Bytes.{le16}
+use Rattle.frame_codec.specs.Frame.{size_of}
+use Rattle.frame_codec.proofs.FrameLemmas.{length-le16, length-le64}
+use Rattle.sql_value.specs.declared.value.Value.{Value}
+use Rattle.sql_value.specs.declared.value.Value.TheVariants.{Null, Int, Text}
+use Rattle.row_format.specs.declared.schema.Kind.{Kind}
+use Rattle.row_format.specs.declared.schema.Kind.TheVariants.{BigInt, VarChar}
+use Rattle.row_format.specs.declared.schema.Column.{Column}
+use Rattle.row_format.specs.declared.schema.Schema.{Schema}
+use Rattle.row_format.specs.declared.change.TableMap.{TableMap}
+use Rattle.row_format.specs.declared.change.Change.{Change}
+use Rattle.row_format.specs.Schemas.{bits_len, greatest, IsSchema}
+use Rattle.row_format.specs.Rows.{int_refusal, text_refusal, value_refusal, values_refusal, IsRow}
+use Rattle.row_format.specs.Spelling.{null_bits, bits_spelling, value_spelling, row_image, kind_spelling, column_spelling, schema_spelling, map_spelling}
+use Rattle.row_format.specs.Changes.{change_event, map_of, map_events, change_events}
+use Rattle.row_format.specs.Transaction.{begin, xid_event, events_of}
+use Rattle.row_format.proofs.RowLemmas.{row_parts, both_none, text_within}
+use Rattle.row_format.proofs.SchemaLemmas.{allowed_parts}
+use Rattle.row_format.proofs.WriteLemmas.{changes_split}
+
+pub length-bits_spelling : (row : List Value) → length (bits_spelling row) ≡ bits_len (length row)
+length-bits_spelling row = elim (cases_Bool (nat_le (length row) 8)) [
+  | inl one ↦ ap length (cond-true (nat_le (length row) 8) (null_bits row ∷ []) (le16 (null_bits row)) one) ∙ sym (cond-true (nat_le (length row) 8) 1 2 one)
+  | inr two ↦ ap length (cond-false (nat_le (length row) 8) (null_bits row ∷ []) (le16 (null_bits row)) two) ∙ length-le16 (null_bits row) ∙ sym (cond-false (nat_le (length row) 8) 1 2 two)
+]
+
+int_within : (kind : Kind) → int_refusal kind ≡ None → 8 ≤ greatest kind
+int_within BigInt taken = omega arith
+int_within (VarChar n) taken = absurd cc
+
+text_small : (kind : Kind) (len : ℕ) → text_refusal kind len ≡ None → 1 + len ≤ greatest kind
+text_small BigInt len taken = absurd cc
+text_small (VarChar n) len taken = let le : len ≤ n = leb-true len n (text_within len n taken) in omega (arith, le)
+
+value_within : (column : Column) (value : Value) → value_refusal column value ≡ None → length (value_spelling value) ≤ greatest column.kind
+value_within column Null taken = omega arith
+value_within column (Int n) taken = omega (arith, int_within column.kind taken, length-le64 (cast_unsigned w64 n))
+value_within column (Text t) taken = omega (arith, text_small column.kind (length t) taken)
+
+values_within : (columns : List Column) (row : List Value) → length row ≡ length columns → values_refusal columns row ≡ None → length (flat_map value_spelling row) ≤ sum_by (λ it. greatest it.kind) columns
+values_within [] [] same taken = omega arith
+values_within [] (value ∷ row) same taken = absurd (omega (arith, same))
+values_within (column ∷ columns) [] same taken = absurd (omega (arith, same))
+values_within (column ∷ columns) (value ∷ row) same taken =
+    let parts = both_none (value_refusal column value) (values_refusal columns row) taken in
+    omega (arith, length-append (value_spelling value) (flat_map value_spelling row), value_within column value parts.0, values_within columns row (omega (arith, same)) parts.1, sum_by-cons (λ (it : Column). greatest it.kind) column columns)
+
+-- a row image has at most 2,000 bytes
+pub image_within : (schema : Schema) (row : List Value) → IsSchema schema → IsRow schema row → length (row_image row) ≤ 2000
+image_within schema row is fits =
+    let parts = row_parts schema row fits.passes in
+    let size = (allowed_parts schema.columns schema.key is.allowed).size in
+    omega (arith, length-append (bits_spelling row) (flat_map value_spelling row), length-bits_spelling row, ap bits_len parts.0, values_within schema.columns row parts.0 parts.1, size)
+
+-- one value more of an image
+pub image_more : (row : List Value) (i : ℕ) (value : Value) → i < length row → value ≡ get_or row i value
+    → bits_len (length row) + length (flat_map value_spelling (take i row)) + length (value_spelling value) ≤ length (row_image row)
+image_more row i value within at =
+    let split : row ≡ take i row ++ value ∷ drop (suc i) row =
+    sym (take-append-drop i row) ∙ ap (λ (l : List Value). take i row ++ l) (drop-cons row i value within ∙ ap (λ (v : Value). v ∷ drop (suc i) row) (sym at)) in
+    let all = ap (λ (l : List Value). length (flat_map value_spelling l)) split ∙ ap length (flat_map-append value_spelling (take i row) (value ∷ drop (suc i) row)) in
+    omega (
+      arith,
+      all,
+      length-append (flat_map value_spelling (take i row)) (value_spelling value ++ flat_map value_spelling (drop (suc i) row)),
+      length-append (value_spelling value) (flat_map value_spelling (drop (suc i) row)),
+      length-append (bits_spelling row) (flat_map value_spelling row),
+      length-bits_spelling row,
+    )
+
+pub length-row_image : (row : List Value) → length (row_image row) ≡ bits_len (length row) + length (flat_map value_spelling row)
+length-row_image row = omega (arith, length-append (bits_spelling row) (flat_map value_spelling row), length-bits_spelling row)
+
+pub length-column_spelling : (column : Column) → length (column_spelling column) ≡ length column.name + length (kind_spelling column.kind) + 2
+length-column_spelling column = omega (arith, length-append (length column.name ∷ (column.name ++ kind_spelling column.kind)) (cond column.nullable 1 0 ∷ []), length-append column.name (kind_spelling column.kind))
+
+pub length-map_spelling : (map : TableMap) → length (map_spelling map) ≡ 1 + length map.table + length (schema_spelling map.schema)
+length-map_spelling map = omega (arith, length-append map.table (schema_spelling map.schema))
+
+pub length-create : (table engine : List ℕ) (schema : Schema) → length (2 ∷ ((length table ∷ table) ++ ((length engine ∷ engine) ++ schema_spelling schema))) ≡ 3 + length table + length engine + length (schema_spelling schema)
+length-create table engine schema = omega (arith, length-append table ((length engine ∷ engine) ++ schema_spelling schema), length-append engine (schema_spelling schema))
+
+-- the events of the changes that are left
+pub sizes_split : (before : Option TableMap) (changes : List Change) (i : ℕ) (change : Change) → i < length changes → change ≡ get_or changes i change
+    → sum_by size_of (change_events before (drop i changes)) ≡ sum_by size_of (map_events before change) + size_of (change_event change) + sum_by size_of (change_events (map_of change) (drop (i + 1) changes))
+sizes_split before changes i change within at =
+    let own = map_events before change ++ change_event change ∷ [] in
+    let more = change_events (map_of change) (drop (i + 1) changes) in
+    omega (arith, ap (sum_by size_of) (changes_split before changes i change within at), sum_by-append size_of own more, sum_by-append size_of (map_events before change) (change_event change ∷ []), sum_by-cons size_of (change_event change) [])
+
+-- a transaction has BEGIN and XID besides its changes' events
+pub transaction_size : (xid : ℕ) (changes : List Change) → sum_by size_of (events_of (record { xid = xid; changes = changes })) ≡ 55 + sum_by size_of (change_events None changes)
+transaction_size xid changes =
+    omega (arith, sum_by-cons size_of begin (change_events None changes ++ xid_event xid ∷ []), sum_by-append size_of (change_events None changes) (xid_event xid ∷ []), sum_by-cons size_of (xid_event xid) [], length-le64 xid)

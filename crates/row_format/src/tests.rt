@@ -1,0 +1,265 @@
+//! Values from outside: bytes that were spelt by hand, and what stands there; limits of schemas; refusals of rows.
+
+use crate::{
+    Change, Column, Kind, Name, Row, Schema, Text, Value, check_row, image_len, items_of, key_of,
+    name_of, put_items, put_name, put_row, put_schema, put_transaction, row_of, schema_of,
+    transaction_at, transaction_len,
+};
+use frame_codec::put_frame;
+use std::alloc::{AllocError, Global};
+use std::process::Abort;
+use std::test::Fail;
+
+// The checksum of the header of a log's first file, as zlib gives it.
+const HEADER_SUM: u32 = 0x2b64_5976;
+
+// The schema of t (k BIGINT PRIMARY KEY, v VARCHAR(10)).
+const SCHEMA: [u8; 11] = [2, 0, 1, b'k', 8, 0, 1, b'v', 15, 10, 1];
+
+// The image of the row (1, 'x') of t.
+const ROW: [u8; 11] = [0, 1, 0, 0, 0, 0, 0, 0, 0, 1, b'x'];
+
+// The body of CREATE TABLE t in JOURNAL.
+const CREATE: [u8; 22] = [
+    2, 1, b't', 7, b'J', b'O', b'U', b'R', b'N', b'A', b'L', 2, 0, 1, b'k', 8, 0, 1, b'v', 15, 10,
+    1,
+];
+
+// The body of INSTALL of JOURNAL.
+const INSTALL: [u8; 9] = [4, 7, b'J', b'O', b'U', b'R', b'N', b'A', b'L'];
+
+// The body of the table map of t.
+const MAP: [u8; 13] = [1, b't', 2, 0, 1, b'k', 8, 0, 1, b'v', 15, 10, 1];
+
+// The body of the XID of transaction 1.
+const XID: [u8; 8] = [1, 0, 0, 0, 0, 0, 0, 0];
+
+// The event that a letter stands for: begin, install, create, map, row or xid.
+fn event_of(letter: u8) -> (u8, &'static [u8]) {
+    match letter {
+        b'b' => (2, &[1]),
+        b'i' => (2, &INSTALL),
+        b'c' => (2, &CREATE),
+        b'm' => (19, &MAP),
+        b'r' => (30, &ROW),
+        _ => (16, &XID),
+    }
+}
+
+// A log with these events behind its header.
+fn log_of(rt: &impl Abort, alloc: Global, letters: &[u8]) -> Result<Vec<u8>, AllocError> {
+    let mut log = Vec::new(alloc);
+    let mut at = 32u32;
+    let mut sum = HEADER_SUM;
+    for letter in letters {
+        let (kind, body) = event_of(*letter);
+        assert!(rt; at < 100_000);
+        assert!(rt; body.len() < 1_000);
+        sum = put_frame(sum, at, kind, body, &mut log)?;
+        at += 23 + body.len() as u32;
+    }
+    Ok(log)
+}
+
+// Reads the transaction that stands there, and writes it again: how many bytes it has, or none where none stands there.
+fn again(rt: &impl Abort, alloc: Global, log: &[u8]) -> Result<Option<usize>, AllocError> {
+    let Some(found) = transaction_at(alloc, log, 32, HEADER_SUM)? else {
+        return Ok(None);
+    };
+    let mut out = Vec::new(alloc);
+    let sum = put_transaction(alloc, &found.txn, 32, HEADER_SUM, &mut out)?;
+    assert_eq!(rt; out.as_slice(), log);
+    assert_eq!(rt; sum, found.crc);
+    assert_eq!(rt; out.len(), found.len);
+    Ok(Some(found.len))
+}
+
+#[test]
+fn transactions_are_read_and_written(rt: HostRuntime) -> Result<(), Fail> {
+    let first = log_of(&rt, rt.alloc(), b"b")?;
+    let hex = [
+        0, 0, 0, 0, 2, 1, 0, 0, 0, 0x18, 0, 0, 0, 0x38, 0, 0, 0, 0, 0, 1,
+    ];
+    assert!(rt; first.as_slice().starts_with(&hex));
+    for (letters, wanted) in [
+        ("bix", Some(87usize)),
+        ("bcx", Some(100)),
+        ("bmrx", Some(125)),
+        ("bmrrx", Some(159)),
+        ("bmrmrx", None),
+        ("bmrmx", None),
+        ("brx", None),
+        ("bi", None),
+        ("bx", None),
+        ("ix", None),
+    ] {
+        let log = log_of(&rt, rt.alloc(), letters.as_bytes())?;
+        assert_eq!(rt;
+            again(&rt, rt.alloc(), log.as_slice())?,
+            wanted,
+            "{letters}"
+        );
+    }
+    Ok(())
+}
+
+#[test]
+fn lists_of_changes_are_read_and_written(rt: HostRuntime) -> Result<(), Fail> {
+    let mut list = [3u8, 0, 0, 0, 2].to_vec(rt.alloc())?;
+    list.extend_from_slice(&CREATE)?;
+    list.push(19)?;
+    list.extend_from_slice(&MAP)?;
+    list.push(30)?;
+    list.extend_from_slice(&ROW)?;
+    let len = list.len();
+    list.push(99)?;
+    let Some((changes, used)) = items_of(rt.alloc(), list.as_slice())? else {
+        return Err(Fail::from("no list"));
+    };
+    assert_eq!(rt; used, len);
+    let mut out = Vec::new(rt.alloc());
+    assert_eq!(rt; put_items(&changes, &mut out)?, 3);
+    assert!(rt; list.as_slice().starts_with(out.as_slice()));
+    assert_eq!(rt; out.len(), len);
+    assert!(rt; changes.as_slice().len() < 3);
+    assert_eq!(rt; transaction_len(&changes), 100 + 36 + 34);
+    let mut other = [1u8, 0, 0, 0, 2].to_vec(rt.alloc())?;
+    other.extend_from_slice(&INSTALL)?;
+    assert!(rt; items_of(rt.alloc(), other.as_slice())?.is_none());
+    Ok(())
+}
+
+#[test]
+fn rows_are_read_and_written(rt: HostRuntime) -> Result<(), Fail> {
+    let Some((schema, used)) = schema_of(rt.alloc(), &SCHEMA)? else {
+        return Err(Fail::from("no schema"));
+    };
+    assert_eq!(rt; used, SCHEMA.len());
+    let mut out = Vec::new(rt.alloc());
+    put_schema(&schema, &mut out)?;
+    assert_eq!(rt; out.as_slice(), SCHEMA.as_slice());
+    let Some((row, used)) = row_of(rt.alloc(), &schema, &ROW)? else {
+        return Err(Fail::from("no row"));
+    };
+    assert_eq!(rt; used, ROW.len());
+    assert_eq!(rt; image_len(&schema, &row), ROW.len());
+    let key = key_of(&schema, &row);
+    assert!(rt; matches!(key, Some(Value::Int(1))));
+    let mut out = Vec::new(rt.alloc());
+    put_row(&schema, &row, &mut out)?;
+    assert_eq!(rt; out.as_slice(), ROW.as_slice());
+    assert!(rt; row_of(rt.alloc(), &schema, &ROW[..10])?.is_none());
+    let Some((name, used)) = name_of(rt.alloc(), &INSTALL[1..])? else {
+        return Err(Fail::from("no name"));
+    };
+    assert_eq!(rt; used, 8);
+    let mut out = Vec::new(rt.alloc());
+    put_name(&name, &mut out)?;
+    assert_eq!(rt; out.as_slice(), &INSTALL[1..]);
+    Ok(())
+}
+
+// A column with a name of one letter.
+fn column(alloc: Global, letter: u8, kind: Kind, nullable: bool) -> Result<Column, Fail> {
+    match Name::new([letter].to_vec(alloc)?) {
+        Ok(name) => Ok(Column {
+            name,
+            kind,
+            nullable,
+        }),
+        Err(_) => Err(Fail::from("no name")),
+    }
+}
+
+// So many columns of one type, named from b on, and one more column named by its letter.
+fn columns(
+    alloc: Global,
+    count: u8,
+    kind: Kind,
+    letter: u8,
+    last: Kind,
+) -> Result<Vec<Column>, Fail> {
+    let mut columns = Vec::new(alloc);
+    for i in 0..count.min(99) {
+        columns.push(column(alloc, b'b' + i, kind, false)?)?;
+    }
+    columns.push(column(alloc, letter, last, true)?)?;
+    Ok(columns)
+}
+
+#[test]
+fn schemas_keep_their_limits(rt: HostRuntime) -> Result<(), Fail> {
+    let big = Kind::BigInt;
+    let text = Kind::VarChar(255);
+    for (what, count, kind, letter, last, key, wanted) in [
+        ("one column", 0u8, big, b'a', big, None, true),
+        ("16 columns", 15, big, b'a', big, Some(14u8), true),
+        ("17 columns", 16, big, b'a', big, None, false),
+        ("two equal names", 3, big, b'd', big, None, false),
+        (
+            "a VARCHAR of length 0",
+            1,
+            big,
+            b'a',
+            Kind::VarChar(0),
+            None,
+            false,
+        ),
+        ("a key that is no column", 1, big, b'a', big, Some(2), false),
+        ("a key that is nullable", 1, big, b'a', big, Some(1), false),
+        (
+            "an image of 2,000 bytes",
+            7,
+            text,
+            b'a',
+            Kind::VarChar(206),
+            None,
+            true,
+        ),
+        (
+            "an image of 2,001 bytes",
+            7,
+            text,
+            b'a',
+            Kind::VarChar(207),
+            None,
+            false,
+        ),
+    ] {
+        let columns = columns(rt.alloc(), count, kind, letter, last)?;
+        assert_eq!(rt; Schema::new(columns, key).is_ok(), wanted, "{what}");
+    }
+    let none = Vec::new(rt.alloc());
+    assert!(rt; Schema::new(none, None).is_err());
+    Ok(())
+}
+
+#[test]
+fn rows_are_refused(rt: HostRuntime) -> Result<(), Fail> {
+    let Some((schema, _)) = schema_of(rt.alloc(), &SCHEMA)? else {
+        return Err(Fail::from("no schema"));
+    };
+    let long = Text::new([b'x'; 11].to_vec(rt.alloc())?);
+    let short = Text::new([b'x'; 10].to_vec(rt.alloc())?);
+    for (values, wanted) in [
+        (vec![in rt.alloc(); Value::Int(1)]?, Some(1136)),
+        (
+            vec![in rt.alloc(); Value::Int(1), Value::Int(1)]?,
+            Some(9010),
+        ),
+        (vec![in rt.alloc(); Value::Null, Value::Null]?, Some(1048)),
+        (
+            vec![in rt.alloc(); Value::Int(1), Value::Text(long)]?,
+            Some(1406),
+        ),
+        (
+            vec![in rt.alloc(); Value::Int(1), Value::Text(short)]?,
+            None,
+        ),
+        (vec![in rt.alloc(); Value::Int(1), Value::Null]?, None),
+    ] {
+        let refused = check_row(&schema, &Row::new(values)).err();
+        assert_eq!(rt; refused.map(|refusal| refusal.number()), wanted);
+    }
+    Ok(())
+}
