@@ -1,0 +1,11 @@
+pub mod Records
+pub mod Replays
+pub mod Areas
+pub mod Journals
+pub mod Index
+pub mod Reading
+pub mod Choosing
+pub mod Making
+pub mod Opening
+pub mod Appending
+pub mod Spelt
