@@ -19,23 +19,6 @@ after_all-append (t ∷ log) more ts = after_all-append log more (after_changes 
 pub tables_after-append : (log : List Transaction) (it : Transaction) → tables_after (log ++ it ∷ []) ≡ after_changes it.changes (tables_after log)
 tables_after-append log it = after_all-append log (it ∷ []) []
 
-after_all-next : (log : List Transaction) (place : ℕ) (it : Transaction) (ts : List Table) → slice_get log place ≡ Some it
-    → after_all (take (suc place) log) ts ≡ after_changes it.changes (after_all (take place log) ts)
-after_all-next [] place it ts h = absurd (none h)
-  where
-    none : None ≡ Some it → ⊥
-    none q = cc
-after_all-next (t ∷ log) zero it ts h = ap (λ x. after_changes x.changes ts) (same h)
-  where
-    same : {a b : Transaction} → Some a ≡ Some b → a ≡ b
-    same q = cc
-after_all-next (t ∷ log) (suc place) it ts h = after_all-next log place it (after_changes t.changes ts) h
-
--- The tables after the transaction at a place: its changes, on the tables before it.
-pub tables_after-take-suc : (log : List Transaction) (place : ℕ) (it : Transaction) → slice_get log place ≡ Some it
-    → tables_after (take (suc place) log) ≡ after_changes it.changes (tables_after (take place log))
-tables_after-take-suc log place it h = after_all-next log place it [] h
-
 pub installed_all-append : (log more : List Transaction) (names : List (List ℕ)) → installed_all (log ++ more) names ≡ installed_all more (installed_all log names)
 installed_all-append [] more names = refl
 installed_all-append (t ∷ log) more names = installed_all-append log more (installed_changes t.changes names)

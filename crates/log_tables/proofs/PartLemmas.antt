@@ -217,10 +217,6 @@ EachApplies-part e (c ∷ cs) ts a = elim (cases (is_on e c ts)) [
       (subst (EachApplies e (changes_on e cs (after_change c ts))) (change-other e c ts off) (EachApplies-part e cs (after_change c ts) a.1))
 ]
 
--- what is made of a table has its name
-KeepsName : (Table → List Table) → Type 0
-KeepsName make = (m : List ℕ) (t : Table) → is_named m t ≡ false → table_named m (make t) ≡ None
-
 changed-name : (c : Change) → (m : List ℕ) (t : Table) → is_named m t ≡ false → table_named m (changed c t) ≡ None
 changed-name c m t h = cond_false (is_named m (with_rows t (rows_after c t))) (Some (with_rows t (rows_after c t))) None (named_with_rows m t (rows_after c t) ∙ h)
   where

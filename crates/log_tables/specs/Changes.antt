@@ -67,11 +67,6 @@ names_table name (Create table engine schema) = bytes_eq table name
 names_table name (Insert map row) = bytes_eq map.table name
 names_table name (Install engine) = false
 
--- a row change has a row of this key
-abbrev pub names_key : ℕ → Value → Change → Bool
-names_key column key (Insert map row) = has_key column key row
-names_key column key _ = false
-
 -- the tables after a list of changes, in order
 abbrev pub after_changes : List Change → List Table → List Table
 after_changes [] tables = tables

@@ -25,7 +25,7 @@ use Rattle.redo_journal.specs.Areas.{area_checksum, area_header, open_sequence, 
 use Rattle.redo_journal.specs.Journals.{chosen, side_read, StandsOn, Stands, Holds, OnlyBoth, file_on, file_beside, IsBehind, IsJournalOn, HasNoArea, HasArea, IsKeptIn, IsKeptOn}
 use Rattle.redo_journal.specs.Choosing.{on_side}
 use Rattle.redo_journal.specs.Making.{IsMaking, Makes}
-use Rattle.redo_journal.specs.Appending.{Spells, FitsBehind, with_one}
+use Rattle.redo_journal.specs.Appending.{Spells, FitsBehind, with_one, IsFirst}
 use Rattle.redo_journal.proofs.WalkLemmas.{end_of_records-append, AllFit-append}
 use Rattle.redo_journal.proofs.AreaLemmas.{area_of-nil, ends_are, length-area_of, area_opened}
 use Rattle.redo_journal.proofs.HeaderLemmas.{open_header}
@@ -162,9 +162,6 @@ spelt_room area records entry bytes sum is fits spells =
     let size = ap length spells.frame ∙ length-frame_of area.crc area.len (record_event entry) in
     (omega (arith, size, is.len, fits.room), omega (arith, size))
 
-pub entry_room : (area : Area) (records : List Record) (entry : Record) → IsBehind area records → FitsBehind records entry → area.len + size_of (record_event entry) ≤ 2147483647
-entry_room area records entry is fits = omega (arith, is.len, fits.room)
-
 -- the journal goes on behind it
 pub next_behind : (area next : Area) (records : List Record) (entry : Record) (bytes : List ℕ) (sum : ℕ) → IsBehind area records → FitsBehind records entry → Spells area.len area.crc entry bytes sum
     → next.sequence ≡ area.sequence → next.len ≡ area.len + length bytes → next.crc ≡ sum → next.records ≡ area.records + 1 → IsBehind next (with_one records entry)
@@ -289,12 +286,6 @@ begin_moments None wanted synced records first old new result none told is kept 
         record { records = []; stands = subst (λ (l : List ℕ). Stands wanted first_image l []) (sym at) stands; at_least = prefix_refl []; at_most = prefix_refl [] }
 
 -- an area as it is made
-pub record IsFirst (it : Area) : Type 0 where
-  pub side : it.side ≡ First
-  pub sequence : it.sequence ≡ 0
-  pub len : it.len ≡ 32
-  pub crc : it.crc ≡ area_checksum 0
-  pub count : it.records ≡ 0
 
 pub begin_behind : (it : Area) (records : List Record) → IsFirst it → records ≡ [] → IsBehind it records
 begin_behind it records first none = subst (λ (l : List Record). IsBehind it l) (sym none) (record {

@@ -1,6 +1,7 @@
--- The bytes of two numbers.
-use Rattle.std.proofs.Common.{◌≡◌, ℕ, List, [], ◌∷◌, ◌++◌, get_or, ◌∙◌, ap}
+-- The bytes of two numbers, and how many bytes bodies have.
+use Rattle.std.proofs.Common.{◌≡◌, ℕ, List, [], ◌∷◌, ◌++◌, get_or, ◌∙◌, ap, ◌+◌, length, length-append, arith}
 use Rattle.frame_codec.specs.Bytes.{le64}
+use Rattle.frame_codec.proofs.FrameLemmas.{length-le64}
 
 -- eight bytes of one list and eight of another
 abbrev sixteen : List ℕ → List ℕ → List ℕ
@@ -11,3 +12,19 @@ sixteen a b =
 pub pair_written : (m n : ℕ) (a b : List ℕ) → a ≡ le64 m → b ≡ le64 n → sixteen a b ≡ le64 m ++ le64 n
 unfolding le64
 pair_written m n a b is_a is_b = ap (λ (l : List ℕ). sixteen l b) is_a ∙ ap (λ (l : List ℕ). sixteen (le64 m) l) is_b
+
+-- the lengths of bodies
+pub length-named : (table text : List ℕ) → length ((length table ∷ table) ++ text) ≡ 1 + length table + length text
+length-named table text = omega (arith, length-append table text)
+
+pub length-defined : (table engine text : List ℕ) → length ((length table ∷ table) ++ ((length engine ∷ engine) ++ text)) ≡ 2 + length table + length engine + length text
+length-defined table engine text = omega (arith, length-named table ((length engine ∷ engine) ++ text), length-named engine text)
+
+pub length-number : (n : ℕ) → length (le64 n) ≡ 8
+length-number n = length-le64 n
+
+pub length-pair : (m n : ℕ) → length (le64 m ++ le64 n) ≡ 16
+length-pair m n = omega (arith, length-append (le64 m) (le64 n), length-le64 m, length-le64 n)
+
+pub length-prepared : (n : ℕ) (text : List ℕ) → length (le64 n ++ text) ≡ 8 + length text
+length-prepared n text = omega (arith, length-append (le64 n) text, length-le64 n)

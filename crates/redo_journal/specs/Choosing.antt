@@ -18,3 +18,8 @@ sided_with sequence first second = cond (has_sequence sequence first) (Some Firs
 pub record IsFound (chosen : Option Side) (first second : Option ℕ) (found : Found) : Type 0 where
   pub side : chosen ≡ Some found.side
   pub sequence : on_side found.side first second ≡ Some found.sequence
+
+-- the sequence is the one that is asked for, where one is
+abbrev pub IsAsked : Option ℕ → ℕ → Type 0
+IsAsked None sequence = Unit {0}
+IsAsked (Some wanted) sequence = sequence ≡ wanted

@@ -9,7 +9,7 @@ use Rattle.redo_journal.specs.declared.choose.Found.{Found}
 use Rattle.redo_journal.specs.declared.journal.Journal.{Journal}
 use Rattle.redo_journal.specs.declared.record.Record.{Record}
 use Rattle.redo_journal.specs.Areas.{open_sequence}
-use Rattle.redo_journal.specs.Journals.{side_read, Stands, OnlyBoth, IsKept, IsSafe}
+use Rattle.redo_journal.specs.Journals.{side_read, Stands, IsNoJournal, OnlyBoth, IsKept, IsSafe}
 use Rattle.redo_journal.specs.Choosing.{IsFound}
 
 -- which side of these two files is read, as it was found
@@ -41,3 +41,7 @@ Opens wanted first start end journal records = Stands wanted (contents start fir
 -- a crash at any moment leaves what may be read as before
 abbrev pub StaysSafe : Option ℕ → ℕ → Disk → Disk → Type 0
 StaysSafe wanted first start end = Keeps start end (OnlyBoth first (now start) (IsSafe wanted (now start first) (now start (first + 1))))
+
+-- the journal's two files are none
+abbrev pub HasNoJournal : Option ℕ → ℕ → Disk → Type 0
+HasNoJournal wanted first disk = IsNoJournal wanted (contents disk first) (contents disk (first + 1))

@@ -10,8 +10,8 @@ ghost use Rattle.framed_file.specs.Framed.{header_len};
 ghost use Rattle.redo_journal.specs.declared.record.Record.{Record as Entry};
 ghost use Rattle.redo_journal.specs.declared.fault.JournalFault.TheVariants.{Device, NotAVolume, Memory};
 ghost use Rattle.redo_journal.specs.Replays.{start, after_records, Fits, AllFit};
-ghost use Rattle.redo_journal.specs.Journals.{OnlyBoth, Holds, IsBehind, IsJournal, IsKept, first_file_of};
-ghost use Rattle.redo_journal.specs.Appending.{Spells, FitsBehind, with_one, has_area};
+ghost use Rattle.redo_journal.specs.Journals.{first_file_of};
+ghost use Rattle.redo_journal.specs.Appending.{Spells, has_area, GoesTo, Admits, IsNextFrame, HasFiles, StandsAsBefore, StandsForMore, KeepsAll, KeepsMore, KeepsSynced, LosesNone, LosesNoneBehind, OfFrame};
 ghost use Rattle.redo_journal.specs.Reading.{is_short};
 ghost use Rattle.redo_journal.specs.Spelt.{spelt_bytes, spelt_sum};
 
@@ -69,40 +69,41 @@ fn spell_entry(alloc: Global, entry: &Record, at: u32, prev: u32) -> Result<Spel
 }
 
 impl Journal {
-    // The area that is open; where none is, the first one is made.
-    fn ready(&mut self, volume: &mut dyn Storage) -> Result<Area, Failed>
-        requires { IsTrue (disk volume.old).told → (wanted : Option ℕ) × (synced : List Entry)
-            × (records : List Entry) × IsKept self.old wanted synced records (now (disk volume.old)) }
-        ensures area { IfOk result (λ area. self.new.area ≡ Some area) }
+    // Where the next record goes: the area that is open, or the first one, as it is once it is made.
+    fn next_area(&self) -> Area
+        ensures { GoesTo self.now.area result }
+    {
+        match self.area {
+            Some(area) => area,
+            None => Area {
+                side: Side::First,
+                sequence: 0,
+                len: 32,
+                crc: area_checksum(0),
+                records: 0,
+            },
+        }
+    }
+
+    // Makes the first area, where none is open.
+    fn ready(&mut self, volume: &mut dyn Storage, area: Area) -> Result<(), Failed>
+        requires area { GoesTo self.old.area area }
+        requires kept { HasFiles self.old (disk volume.old) }
+        ensures area { OnOk result (self.new.area ≡ Some area) }
         ensures first { self.new.first_file ≡ self.old.first_file }
-        ensures journal { (records : List Entry) → IsJournal self.old records
-            → OnOk result (IsJournal self.new records) }
-        ensures ok { (wanted : Option ℕ) (synced records : List Entry)
-            → IsTrue (disk volume.old).told
-            → IsKept self.old wanted synced records (now (disk volume.old))
-            → OnOk result (IsKept self.new wanted synced records (now (disk volume.new))) }
-        ensures any_moment { (wanted : Option ℕ) (synced records : List Entry)
-            → IsTrue (disk volume.old).told
-            → IsKept self.old wanted synced records (now (disk volume.old))
-            → Keeps (disk volume.old) (disk volume.new) (OnlyBoth (first_file_of self.old)
-            (now (disk volume.old)) (Holds wanted synced records)) }
+        ensures journal { OnOk result (StandsAsBefore self.old self.new) }
+        ensures ok { OnOk result (KeepsAll self.old (disk volume.old) self.new (disk volume.new)) }
+        ensures any_moment { LosesNone self.old (disk volume.old) (disk volume.new) }
         ensures device { HasCause IsErr result (disk volume.old) (disk volume.new) }
         ensures device_calls { IsTrue (has_area self.old)
             → (disk volume.new).calls ≡ (disk volume.old).calls }
     {
-        if let Some(area) = self.area {
-            return Ok(area);
+        if let Some(_open) = self.area {
+            return Ok(());
         }
         make_area(volume, self.first_file, 0)?;
-        let area = Area {
-            side: Side::First,
-            sequence: 0,
-            len: 32,
-            crc: area_checksum(0),
-            records: 0,
-        };
         self.area = Some(area);
-        Ok(area)
+        Ok(())
     }
 
     // Writes the frame of a record at the end of the open area.
@@ -114,25 +115,15 @@ impl Journal {
         crc: u32,
     ) -> Result<(), Failed>
         requires area { self.old.area ≡ Some area }
-        requires fits { (records : List Entry) × (entry : Entry) × IsBehind area records
-            × FitsBehind records entry × Spells area.len area.crc entry bytes.now crc }
-        requires kept { IsTrue (disk volume.old).told → (wanted : Option ℕ) × (synced : List Entry)
-            × (records : List Entry) × IsKept self.old wanted synced records (now (disk volume.old)) }
+        requires frame { IsNextFrame area bytes.now crc }
+        requires kept { HasFiles self.old (disk volume.old) }
         ensures first { self.new.first_file ≡ self.old.first_file }
-        ensures journal { (records : List Entry) (entry : Entry) → IsJournal self.old records
-            → FitsBehind records entry → Spells area.len area.crc entry bytes.now crc
-            → OnOk result (IsJournal self.new (with_one records entry)) }
-        ensures ok { (wanted : Option ℕ) (synced records : List Entry) (entry : Entry)
-            → IsTrue (disk volume.old).told → FitsBehind records entry
-            → Spells area.len area.crc entry bytes.now crc
-            → IsKept self.old wanted synced records (now (disk volume.old)) → OnOk result
-            (IsKept self.new wanted synced (with_one records entry) (now (disk volume.new))) }
-        ensures any_moment { (wanted : Option ℕ) (synced records : List Entry) (entry : Entry)
-            → IsTrue (disk volume.old).told → FitsBehind records entry
-            → Spells area.len area.crc entry bytes.now crc
-            → IsKept self.old wanted synced records (now (disk volume.old))
-            → Keeps (disk volume.old) (disk volume.new) (OnlyBoth (first_file_of self.old)
-            (now (disk volume.old)) (Holds wanted synced (with_one records entry))) }
+        ensures journal { OnOk result
+            (OfFrame area bytes.now crc (λ it. StandsForMore it self.old self.new)) }
+        ensures ok { OnOk result (OfFrame area bytes.now crc (λ it.
+            KeepsMore it self.old (disk volume.old) self.new (disk volume.new))) }
+        ensures any_moment { OfFrame area bytes.now crc (λ it.
+            LosesNoneBehind it self.old (disk volume.old) (disk volume.new)) }
         ensures device { HasCause IsErr result (disk volume.old) (disk volume.new) }
         ensures device_calls { OnOk result
             ((disk volume.new).calls ≡ (disk volume.old).calls + 1) }
@@ -152,36 +143,18 @@ impl Journal {
 
     /// Adds a record at the end, by one write. It is durable only after a sync. A journal without an area makes its first one before.
     ///
-    /// `Device` where the device failed; then the journal is only dropped, or opened again. `Memory` where there was none: the record
-    /// is not added, and the journal goes on. A Commit or a Rollback takes no memory.
+    /// `Device` where the device failed; then the journal is only dropped, or opened again. `Memory` where there was none: nothing was
+    /// done, and the journal goes on. A Commit or a Rollback takes no memory.
     pub fn append(&mut self, volume: &mut dyn Storage, entry: &Record) -> Result<(), JournalFault>
-        requires fits { (records : List Entry) × IsJournal self.old records
-            × FitsBehind records entry.now }
-        requires kept { IsTrue (disk volume.old).told → (wanted : Option ℕ) × (synced : List Entry)
-            × (records : List Entry) × IsKept self.old wanted synced records (now (disk volume.old)) }
+        requires fits { Admits self.old entry.now }
+        requires kept { HasFiles self.old (disk volume.old) }
         ensures first { first_file_of self.new ≡ first_file_of self.old }
-        ensures journal { (records : List Entry) → IsJournal self.old records
-            → FitsBehind records entry.now
-            → OnOk result (IsJournal self.new (with_one records entry.now)) }
-        ensures ok { (wanted : Option ℕ) (synced records : List Entry)
-            → IsTrue (disk volume.old).told
-            → FitsBehind records entry.now
-            → IsKept self.old wanted synced records (now (disk volume.old)) → OnOk result
-            (IsKept self.new wanted synced (with_one records entry.now) (now (disk volume.new))) }
-
-        // A crash leaves every record that was synced, and of the others and of this one a first part.
-        ensures any_moment { (wanted : Option ℕ) (synced records : List Entry)
-            → IsTrue (disk volume.old).told → FitsBehind records entry.now
-            → IsKept self.old wanted synced records (now (disk volume.old))
-            → Keeps (disk volume.old) (disk volume.new) (OnlyBoth (first_file_of self.old)
-            (now (disk volume.old)) (Holds wanted synced (with_one records entry.now))) }
-
-        ensures memory { (wanted : Option ℕ) (synced records : List Entry)
-            → IsTrue (disk volume.old).told → result ≡ Err Memory
-            → IsKept self.old wanted synced records (now (disk volume.old))
-            → IsKept self.new wanted synced records (now (disk volume.new)) }
-        ensures stays { (records : List Entry) → result ≡ Err Memory → IsJournal self.old records
-            → IsJournal self.new records }
+        ensures journal { OnOk result (StandsForMore entry.now self.old self.new) }
+        ensures ok { OnOk result
+            (KeepsMore entry.now self.old (disk volume.old) self.new (disk volume.new)) }
+        ensures any_moment { LosesNoneBehind entry.now self.old (disk volume.old) (disk volume.new) }
+        ensures memory { result ≡ Err Memory
+            → (self.new ≡ self.old) × (disk volume.new ≡ disk volume.old) }
         ensures takes_none { IsTrue (is_short entry.now) → result ≡ Err Memory → ⊥ }
         ensures never { (file : ℕ) → result ≡ Err (NotAVolume file) → ⊥ }
         ensures device { HasCause (λ r. IsErrOf r Device) result
@@ -189,39 +162,32 @@ impl Journal {
         ensures device_calls { IsTrue (has_area self.old) → OnOk result
             ((disk volume.new).calls ≡ (disk volume.old).calls + 1) }
     {
-        let area = match self.ready(volume) {
-            Ok(area) => area,
-            Err(_) => return Err(JournalFault::Device),
-        };
+        let area = self.next_area();
+        // The frame comes first: for want of memory not even an area is made.
         let frame = match spell_entry(self.alloc, entry, area.len, area.crc) {
             Ok(frame) => frame,
             Err(_) => return Err(JournalFault::Memory),
         };
+        if let Err(_) = self.ready(volume, area) {
+            return Err(JournalFault::Device);
+        }
         match self.write(volume, area, frame.as_slice(), frame.crc()) {
             Ok(()) => Ok(()),
             Err(_) => Err(JournalFault::Device),
         }
     }
 
-    /// Makes all records that were added durable, by one sync of their file.
+    /// Makes all records that were added durable, by one sync of their file; before there is an area there is nothing to sync.
     ///
     /// `Failed` where the device failed; then the journal is only dropped, or opened again.
     pub fn sync(&mut self, volume: &mut dyn Storage) -> Result<(), Failed>
         ensures same { self.new ≡ self.old }
-        ensures ok { (wanted : Option ℕ) (synced records : List Entry)
-            → IsTrue (disk volume.old).told
-            → IsKept self.old wanted synced records (now (disk volume.old)) → OnOk result
-            (IsKept self.new wanted records records (now (disk volume.new))) }
-
-        // A crash leaves every record that was synced, and of the others a first part.
-        ensures any_moment { (wanted : Option ℕ) (synced records : List Entry)
-            → IsTrue (disk volume.old).told
-            → IsKept self.old wanted synced records (now (disk volume.old))
-            → Keeps (disk volume.old) (disk volume.new) (OnlyBoth (first_file_of self.old)
-            (now (disk volume.old)) (Holds wanted synced records)) }
-
+        ensures ok { OnOk result (KeepsSynced self.old (disk volume.old) self.new (disk volume.new)) }
+        ensures any_moment { LosesNone self.old (disk volume.old) (disk volume.new) }
         ensures device { HasCause IsErr result (disk volume.old) (disk volume.new) }
         ensures device_calls { (disk volume.new).calls ≤ (disk volume.old).calls + 1 }
+        ensures one_call { IsTrue (has_area self.old) → OnOk result
+            ((disk volume.new).calls ≡ (disk volume.old).calls + 1) }
     {
         match self.area {
             None => Ok(()),

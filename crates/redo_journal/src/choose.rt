@@ -1,7 +1,7 @@
 //! Which of the two files of a journal is read.
 ghost use Rattle.std.specs.Prelude.{◌≡◌, None, IfSome, IfNone};
 ghost use Rattle.redo_journal.specs.Journals.{has_sequence, greater_side, chosen};
-ghost use Rattle.redo_journal.specs.Choosing.{IsFound, sided_with};
+ghost use Rattle.redo_journal.specs.Choosing.{IsFound, IsAsked, sided_with};
 
 use crate::Side;
 
@@ -56,6 +56,7 @@ fn greatest(first: Option<u64>, second: Option<u64>) -> Option<Found>
 // The first area that is open with this sequence.
 fn with_sequence(sequence: u64, first: Option<u64>, second: Option<u64>) -> Option<Found>
     ensures some { IfSome result (IsFound (sided_with sequence first second) first second) }
+    ensures asked { IfSome result (λ found. found.sequence ≡ sequence) }
     ensures none { IfNone result (sided_with sequence first second ≡ None) }
 {
     if has_sequence(sequence, first) {
@@ -76,6 +77,7 @@ fn with_sequence(sequence: u64, first: Option<u64>, second: Option<u64>) -> Opti
 /// The area that is read, of two with these open sequences: that of the sequence that is asked for, or of the greatest.
 pub(crate) fn chosen(wanted: Option<u64>, first: Option<u64>, second: Option<u64>) -> Option<Found>
     ensures some { IfSome result (IsFound (chosen wanted first second) first second) }
+    ensures asked { IfSome result (λ found. IsAsked wanted found.sequence) }
     ensures none { IfNone result (chosen wanted first second ≡ None) }
 {
     match wanted {

@@ -16,7 +16,7 @@ pub(crate) fn cut_synced(volume: &mut dyn Storage, file: u32, len: u64) -> Resul
     requires settled { IsTrue (disk volume.old).told → IsSettled (now (disk volume.old) file) }
     requires within { IsTrue (disk volume.old).told
         → len ≤ length (contents (disk volume.old) file) }
-    ensures { Changes file (CutTo len) result (disk volume.old) (disk volume.new) }
+    ensures changes { Changes file (CutTo len) result (disk volume.old) (disk volume.new) }
 {
     volume.cut(file, len)?;
     volume.sync(file)
@@ -29,8 +29,8 @@ pub(crate) fn write_at(
     at: u64,
     bytes: &[u8],
 ) -> Result<(), Failed>
-    requires { IsTrue (disk volume.old).told → at ≤ length (contents (disk volume.old) file) }
-    ensures { Called file (Writes at bytes.now result) result
+    requires within { IsTrue (disk volume.old).told → at ≤ length (contents (disk volume.old) file) }
+    ensures called { Called file (Writes at bytes.now result) result
         (disk volume.old) (disk volume.new) }
 {
     volume.write(file, at, bytes)
@@ -41,7 +41,7 @@ fn write_synced(volume: &mut dyn Storage, file: u32, at: u64, bytes: &[u8]) -> R
     requires settled { IsTrue (disk volume.old).told → IsSettled (now (disk volume.old) file) }
     requires within { IsTrue (disk volume.old).told
         → at ≤ length (contents (disk volume.old) file) }
-    ensures { Changes file (Wrote at bytes.now) result (disk volume.old) (disk volume.new) }
+    ensures changes { Changes file (Wrote at bytes.now) result (disk volume.old) (disk volume.new) }
 {
     volume.write(file, at, bytes)?;
     volume.sync(file)
@@ -49,8 +49,8 @@ fn write_synced(volume: &mut dyn Storage, file: u32, at: u64, bytes: &[u8]) -> R
 
 /// Makes an open area with this sequence and no records in a synced file.
 pub(crate) fn make_area(volume: &mut dyn Storage, file: u32, sequence: u64) -> Result<(), Failed>
-    requires { IsTrue (disk volume.old).told → IsSettled (now (disk volume.old) file) }
-    ensures { Makes file sequence result (disk volume.old) (disk volume.new) }
+    requires settled { IsTrue (disk volume.old).told → IsSettled (now (disk volume.old) file) }
+    ensures makes { Makes file sequence result (disk volume.old) (disk volume.new) }
 {
     let closed = header(sequence, GATE_CLOSED);
     let gate = [GATE_OPEN];

@@ -51,11 +51,18 @@ impl Side {
 }
 
 impl Journal {
-    ghost use Rattle.redo_journal.specs.Appending.{count_in, sequence_in, len_in};
+    ghost use Rattle.std.specs.Prelude.{ℕ, List, Option, length, false, IsTrue};
+    ghost use Rattle.disk_model.specs.File.{File};
+    ghost use Rattle.framed_file.specs.Framed.{header_len};
+    ghost use Rattle.redo_journal.specs.declared.record.Record.{Record as Entry};
+    ghost use Rattle.redo_journal.specs.Areas.{area_of};
+    ghost use Rattle.redo_journal.specs.Replays.{end_of_records};
+    ghost use Rattle.redo_journal.specs.Journals.{IsJournal, IsKept};
+    ghost use Rattle.redo_journal.specs.Appending.{has_area, sequence_of, open_file};
 
     /// How many records the open area has; 0 before there is one.
     pub fn records(&self) -> u64
-        ensures { result ≡ count_in self.now.area }
+        ensures { (records : List Entry) → IsJournal self.now records → result ≡ length records }
     {
         match self.area {
             None => 0,
@@ -65,7 +72,11 @@ impl Journal {
 
     /// The sequence of the open area; 0 before there is one.
     pub fn sequence(&self) -> u64
-        ensures { result ≡ sequence_in self.now.area }
+        ensures value { result ≡ sequence_of self.now }
+        ensures area { (wanted : Option ℕ) (synced records : List Entry) (files : ℕ → File)
+            → IsTrue (has_area self.now) → IsKept self.now wanted synced records files
+            → (files (open_file self.now)).bytes ≡ area_of result records }
+        ensures before { has_area self.now ≡ false → result ≡ 0 }
     {
         match self.area {
             None => 0,
@@ -75,7 +86,9 @@ impl Journal {
 
     /// How many bytes the open area has; 0 before there is one.
     pub fn len(&self) -> u64
-        ensures { result ≡ len_in self.now.area }
+        ensures area { (records : List Entry) → IsTrue (has_area self.now)
+            → IsJournal self.now records → result ≡ end_of_records header_len records }
+        ensures before { has_area self.now ≡ false → result ≡ 0 }
     {
         match self.area {
             None => 0,

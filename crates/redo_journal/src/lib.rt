@@ -37,4 +37,5 @@ mod walk;
 pub use fault::JournalFault;
 pub use journal::{Journal, Side};
 pub use laws::one_journal;
-pub use record::{Record, Records};
+pub use record::Record;
+pub use spell::record_len;

@@ -3,15 +3,17 @@
 //! Device calls, in order: the header of both files; where one is read, its records and its length, else the length of the first; then
 //! sync of the first, sync of the second; where bytes stand behind the last record, cut and sync. A crash at any moment leaves files
 //! that are read as they were, or as a crash at the start could have left them (`IsSafe`).
-ghost use Rattle.std.specs.Prelude.{◌≡◌, ◌≤◌, ◌<◌, ◌+◌, ◌^◌, ◌↔◌, ◌⊎◌, ℕ, List, length, Option, Some, None, IfOk, OnOk, IsErr, IsErrOf, IsTrue, Err};
+ghost use Rattle.std.specs.Prelude.{◌≡◌, ◌≤◌, ◌<◌, ◌+◌, ◌^◌, ◌↔◌, ◌⊎◌, ℕ, List, length, Option, Some, None, IfOk, IfSome, OnOk, IsErr, IsErrOf, IsTrue, Err};
 ghost use Rattle.fault_counts.specs.Rose.{Rose};
 ghost use Rattle.disk_model.specs.File.{Stays};
 ghost use Rattle.disk_model.specs.Disk.{Disk, Called, Fills, now, contents, Keeps, HasCause};
 ghost use Rattle.disk_model.specs.Looking.{LooksOnly};
 ghost use Rattle.redo_journal.specs.declared.fault.JournalFault.TheVariants.{Device, NotAVolume};
 ghost use Rattle.redo_journal.specs.Areas.{open_sequence};
-ghost use Rattle.redo_journal.specs.Journals.{side_read, file_on, IsFresh, IsNoJournal, IsJournal, first_file_of};
-ghost use Rattle.redo_journal.specs.Opening.{IsReadOf, Opens, StaysSafe};
+ghost use Rattle.redo_journal.specs.Journals.{side_read, file_on, IsFresh, IsJournal, first_file_of};
+ghost use Rattle.redo_journal.specs.Appending.{sequence_of};
+ghost use Rattle.redo_journal.specs.Choosing.{IsAsked};
+ghost use Rattle.redo_journal.specs.Opening.{IsReadOf, Opens, StaysSafe, HasNoJournal};
 
 use crate::choose::{Found, chosen};
 use crate::header::{HEADER_LEN, area_checksum, open_sequence};
@@ -46,6 +48,7 @@ fn area_read(
     requires { first_file + 1 < 2 ^ 32 }
     ensures value { IsTrue (disk volume.old).told → IfOk result (IsReadOf wanted
         (contents (disk volume.old) first_file) (contents (disk volume.old) (first_file + 1))) }
+    ensures asked { IfOk result (λ o. IfSome o (λ found. IsAsked wanted found.sequence)) }
     ensures looks { LooksOnly (disk volume.old) (disk volume.new) }
     ensures device { IsErr result → Rose (disk volume.old).faults (disk volume.new).faults }
 {
@@ -58,6 +61,7 @@ fn area_read(
 fn is_fresh(volume: &mut dyn Storage, first_file: u32, wanted: Option<u64>) -> Result<bool, Failed>
     ensures value { IsTrue (disk volume.old).told → IfOk result
         (λ is. IsTrue is ↔ IsFresh wanted (contents (disk volume.old) first_file)) }
+    ensures asked { IfOk result (λ is. IsTrue is → IsAsked wanted 0) }
     ensures looks { LooksOnly (disk volume.old) (disk volume.new) }
     ensures device { IsErr result → Rose (disk volume.old).faults (disk volume.new).faults }
 {
@@ -80,6 +84,7 @@ fn open_none(
     requires { first_file + 1 < 2 ^ 32 }
     ensures journal { IfOk result (λ o. (first_file_of o.0 ≡ first_file)
         × IsJournal o.0 o.1.items) }
+    ensures asked { IfOk result (λ o. IsAsked wanted (sequence_of o.0)) }
     ensures opened { IsTrue (disk volume.old).told
         → IsReadOf wanted (contents (disk volume.old) first_file)
         (contents (disk volume.old) (first_file + 1)) None
@@ -92,6 +97,8 @@ fn open_none(
     ensures not_a_volume { (file : ℕ) → result ≡ Err (NotAVolume file) → (file ≡ first_file)
         × (IsTrue (disk volume.old).told
         → IsFresh wanted (contents (disk volume.old) first_file) → ⊥) }
+    ensures looks { (file : ℕ) → result ≡ Err (NotAVolume file)
+        → LooksOnly (disk volume.old) (disk volume.new) }
     ensures is_volume { IsTrue (disk volume.old).told
         → OnOk result (IsFresh wanted (contents (disk volume.old) first_file)) }
     ensures device { HasCause (λ r. IsErrOf r Device) result
@@ -122,6 +129,7 @@ fn open_area(
         ≡ Some found.sequence }
     ensures journal { IfOk result (λ o. (first_file_of o.0 ≡ first_file)
         × IsJournal o.0 o.1.items) }
+    ensures sequence { IfOk result (λ o. sequence_of o.0 ≡ found.sequence) }
     ensures opened { (wanted : Option ℕ) → IsTrue (disk volume.old).told
         → IsReadOf wanted (contents (disk volume.old) first_file)
         (contents (disk volume.old) (first_file + 1)) (Some found)
@@ -172,6 +180,7 @@ impl Journal {
         requires { first_file + 1 < 2 ^ 32 }
         ensures journal { IfOk result (λ o. (first_file_of o.0 ≡ first_file)
             × IsJournal o.0 o.1.items) }
+        ensures asked { IfOk result (λ o. IsAsked wanted (sequence_of o.0)) }
         ensures opened { IsTrue (disk volume.old).told → IfOk result (λ o.
             Opens wanted first_file (disk volume.old) (disk volume.new) o.0 o.1.items) }
 
@@ -180,11 +189,11 @@ impl Journal {
             → StaysSafe wanted first_file (disk volume.old) (disk volume.new) }
 
         ensures not_a_volume { (file : ℕ) → result ≡ Err (NotAVolume file) → (file ≡ first_file)
-            × (IsTrue (disk volume.old).told → IsNoJournal wanted
-            (contents (disk volume.old) first_file) (contents (disk volume.old) (first_file + 1))) }
-        ensures is_volume { IsTrue (disk volume.old).told → OnOk result (IsNoJournal wanted
-            (contents (disk volume.old) first_file)
-            (contents (disk volume.old) (first_file + 1)) → ⊥) }
+            × (IsTrue (disk volume.old).told → HasNoJournal wanted first_file (disk volume.old)) }
+        ensures looks { (file : ℕ) → result ≡ Err (NotAVolume file)
+            → LooksOnly (disk volume.old) (disk volume.new) }
+        ensures is_volume { IsTrue (disk volume.old).told
+            → OnOk result (HasNoJournal wanted first_file (disk volume.old) → ⊥) }
         ensures device { HasCause (λ r. IsErrOf r Device) result
             (disk volume.old) (disk volume.new) }
     {

@@ -1,9 +1,7 @@
 //! Records of a journal as values.
-ghost use Rattle.std.specs.Prelude.{◌≡◌};
 
 use log_tables::{Definition, Prepared};
 use row_format::{Name, Row};
-use std::marker::Model;
 
 /// What one frame of a journal tells.
 #[derive(Drop)]
@@ -20,19 +18,4 @@ pub enum Record {
     Commit { xid: u64, number: u64 },
     /// A prepared transaction was rolled back.
     Rollback { xid: u64 },
-}
-
-/// Records, in order.
-#[derive(Drop)]
-pub struct Records {
-    records: Vec<Record>,
-}
-
-impl Model for Records {
-    ghost use Rattle.std.specs.Prelude.{List};
-    ghost use Rattle.redo_journal.specs.declared.record.Record.{Record};
-
-    ghost Value = { List Record };
-
-    ghost view = { λ r. r.records.items };
 }

@@ -1,7 +1,7 @@
 //! Writing a record: the frame of its event, at the end of some bytes, or in an array.
-ghost use Rattle.std.specs.Prelude.{◌≡◌, ◌≤◌, ◌++◌, List, IfOk, IfSome, OnOk, OnErr, is_some};
+ghost use Rattle.std.specs.Prelude.{◌≡◌, ◌≤◌, ◌<◌, ◌+◌, ◌^◌, ◌++◌, List, length, IfOk, IfSome, OnOk, OnErr, is_some};
 ghost use Rattle.frame_codec.specs.Bytes.{le64};
-ghost use Rattle.frame_codec.specs.Frame.{frame_of, checksum_of, limit};
+ghost use Rattle.frame_codec.specs.Frame.{frame_of, checksum_of, size_of, limit};
 ghost use Rattle.frame_codec.specs.Short.{short_bytes};
 ghost use Rattle.framed_file.specs.Framed.{header_len};
 ghost use Rattle.row_format.specs.Schemas.{IsSchema};
@@ -16,7 +16,9 @@ ghost use Rattle.redo_journal.specs.Reading.{IsSpellable, is_short};
 use crate::Record;
 use frame_codec::{ShortFrame, put_frame};
 use log_tables::{Definition, Prepared};
-use row_format::{Name, Row, put_image, put_items, put_name, put_schema};
+use row_format::{
+    Name, Row, items_len, put_image, put_items, put_name, put_schema, row_len, schema_len,
+};
 use std::alloc::{AllocError, Global};
 
 /// The type of a SnapTable.
@@ -116,6 +118,33 @@ fn body_of(alloc: Global, entry: &Record) -> Result<Vec<u8>, AllocError>
         Record::Commit { xid, number } => Vec::from_slice(alloc, &pair_bytes(*xid, *number)),
         Record::Rollback { xid } => Vec::from_slice(alloc, &number_bytes(*xid)),
     }
+}
+
+// How many bytes the body of a record's event has.
+fn body_len(entry: &Record) -> u64
+    requires { IsSpellable entry.now }
+    ensures value { result ≡ length (record_event entry.now).body }
+    ensures small { result < 2 ^ 46 }
+{
+    match entry {
+        Record::SnapTable(it) => {
+            let names = it.table.as_bytes().len() + it.engine.as_bytes().len();
+            2 + names as u64 + schema_len(&it.schema)
+        }
+        Record::SnapRow { table, row } => 1 + (table.as_bytes().len() + row_len(row)) as u64,
+        Record::SnapLast { .. } => 8,
+        Record::Prepare(it) => 8 + items_len(&it.changes),
+        Record::Commit { .. } => 16,
+        Record::Rollback { .. } => 8,
+    }
+}
+
+/// How many bytes the frame of a record has. No memory is taken.
+pub fn record_len(entry: &Record) -> u64
+    requires { IsSpellable entry.now }
+    ensures { result ≡ size_of (record_event entry.now) }
+{
+    23 + body_len(entry)
 }
 
 /// Appends the frame of a record that fits behind others, for the file position `at` behind a frame with the checksum `prev`, and

@@ -1,6 +1,7 @@
 //! Reading the record that an event tells.
 //!
-//! Each reader answers None exactly where no record that is allowed has the event.
+//! Each reader gives a record that has the event, and answers None only where no record that is allowed has it. Whether the one that it
+//! gives is allowed is asked afterwards, by the index.
 ghost use Rattle.std.specs.Prelude.{IfOk, IfSome, IfNone};
 ghost use Rattle.framed_file.specs.Framed.{header_len};
 ghost use Rattle.redo_journal.specs.Replays.{Replay as Told, start, AllFit};
@@ -122,7 +123,7 @@ fn rollback_of(body: &[u8]) -> Option<Record>
     }
 }
 
-/// The record with the event of this type and this body, behind these records; None where no record that is allowed there has it.
+/// A record with the event of this type and this body, behind these records; None only where no record that is allowed there has it.
 ///
 /// `AllocError` for want of memory.
 pub(crate) fn record_of(

@@ -1,14 +1,15 @@
 -- How many bytes things have.
-use Rattle.std.proofs.Common.{◌≡◌, ℕ, suc, ◌+◌, ◌≤◌, ◌<◌, cond, List, [], ◌∷◌, ◌++◌, length, Option, None, sym, ap, ◌∙◌, arith, inl, inr, length-append, get_or, drop, take, drop-cons, take-append-drop}
-use Rattle.std.specs.Prelude.{nat_le, sum_by}
+use Rattle.std.proofs.Common.{◌≡◌, ℕ, suc, ◌+◌, ◌*◌, ◌≤◌, ◌<◌, cond, List, [], ◌∷◌, ◌++◌, length, Option, None, refl, sym, ap, ◌∙◌, arith, inl, inr, length-append, get_or, drop, take, drop-cons, take-append-drop}
+use Rattle.std.specs.Prelude.{nat_le, sum_by, All}
+use Rattle.std.proofs.lemmas.List.Elements.{All-head, All-tail}
 use Rattle.std.specs.List.{flat_map}
 use Rattle.std.specs.Int.{w64, cast_unsigned}
 use Rattle.std.proofs.lemmas.List.Concat.{flat_map-append}
 use Rattle.std.proofs.lemmas.List.Sums.{sum_by-cons, sum_by-append}
 use Rattle.std.proofs.lemmas.Bool.{cases_Bool, leb-true, cond-true, cond-false}
-use Rattle.frame_codec.specs.Bytes.{le16}
-use Rattle.frame_codec.specs.Frame.{size_of}
-use Rattle.frame_codec.proofs.FrameLemmas.{length-le16, length-le64}
+use Rattle.frame_codec.specs.Bytes.{le16, le32}
+use Rattle.frame_codec.specs.Frame.{Event, size_of}
+use Rattle.frame_codec.proofs.FrameLemmas.{length-le16, length-le32, length-le64}
 use Rattle.sql_value.specs.declared.value.Value.{Value}
 use Rattle.sql_value.specs.declared.value.Value.TheVariants.{Null, Int, Text}
 use Rattle.row_format.specs.declared.schema.Kind.{Kind}
@@ -19,8 +20,9 @@ use Rattle.row_format.specs.declared.change.TableMap.{TableMap}
 use Rattle.row_format.specs.declared.change.Change.{Change}
 use Rattle.row_format.specs.Schemas.{bits_len, greatest, IsSchema}
 use Rattle.row_format.specs.Rows.{int_refusal, text_refusal, value_refusal, values_refusal, IsRow}
-use Rattle.row_format.specs.Spelling.{null_bits, bits_spelling, value_spelling, row_image, kind_spelling, column_spelling, schema_spelling, map_spelling}
+use Rattle.row_format.specs.Spelling.{null_bits, bits_spelling, value_spelling, row_image, kind_spelling, column_spelling, schema_spelling, map_spelling, IsShort, HasImage}
 use Rattle.row_format.specs.Changes.{change_event, map_of, map_events, change_events}
+use Rattle.row_format.specs.Items.{item_spelling, items_of_changes, list_spelling}
 use Rattle.row_format.specs.Transaction.{begin, xid_event, events_of}
 use Rattle.row_format.proofs.RowLemmas.{row_parts, both_none, text_within}
 use Rattle.row_format.proofs.SchemaLemmas.{allowed_parts}
@@ -59,6 +61,27 @@ image_within schema row is fits =
     let parts = row_parts schema row fits.passes in
     let size = (allowed_parts schema.columns schema.key is.allowed).size in
     omega (arith, length-append (bits_spelling row) (flat_map value_spelling row), length-bits_spelling row, ap bits_len parts.0, values_within schema.columns row parts.0 parts.1, size)
+
+short_within : (row : List Value) → All IsShort row → length (flat_map value_spelling row) ≤ 256 * length row
+short_within [] short = omega arith
+short_within (value ∷ row) short =
+    omega (arith, length-append (value_spelling value) (flat_map value_spelling row), one_within value (All-head IsShort value row short), short_within row (All-tail IsShort value row short))
+  where
+    one_within : (value : Value) → IsShort value → length (value_spelling value) ≤ 256
+    one_within Null is = omega arith
+    one_within (Int n) is = omega (arith, length-le64 (cast_unsigned w64 n))
+    one_within (Text t) is = omega (arith, is)
+
+bits_small : (n : ℕ) → bits_len n ≤ 2
+bits_small n = elim (cases_Bool (nat_le n 8)) [
+  | inl one ↦ omega (arith, cond-true {A = ℕ} (nat_le n 8) 1 2 one)
+  | inr two ↦ omega (arith, cond-false {A = ℕ} (nat_le n 8) 1 2 two)
+]
+
+-- the image of any row that has one
+pub image_small : (row : List Value) → HasImage row → length (row_image row) ≤ 4098
+image_small row has =
+    omega (arith, length-append (bits_spelling row) (flat_map value_spelling row), length-bits_spelling row, bits_small (length row), short_within row has.short, has.few)
 
 -- one value more of an image
 pub image_more : (row : List Value) (i : ℕ) (value : Value) → i < length row → value ≡ get_or row i value
@@ -100,3 +123,30 @@ sizes_split before changes i change within at =
 pub transaction_size : (xid : ℕ) (changes : List Change) → sum_by size_of (events_of (record { xid = xid; changes = changes })) ≡ 55 + sum_by size_of (change_events None changes)
 transaction_size xid changes =
     omega (arith, sum_by-cons size_of begin (change_events None changes ++ xid_event xid ∷ []), sum_by-append size_of (change_events None changes) (xid_event xid ∷ []), sum_by-cons size_of (xid_event xid) [], length-le64 xid)
+
+-- an item has 22 bytes less than its frame
+pub items_sizes : (events : List Event) → length (flat_map item_spelling events) + 22 * length events ≡ sum_by size_of events
+items_sizes [] = refl
+items_sizes (event ∷ events) = omega (arith, length-append (item_spelling event) (flat_map item_spelling events), items_sizes events, sum_by-cons size_of event events)
+
+-- each change has an item of its own
+pub changes_fewer : (before : Option TableMap) (changes : List Change) → length changes ≤ length (change_events before changes)
+changes_fewer before [] = omega arith
+changes_fewer before (it ∷ rest) = omega (arith, length-append (map_events before it) (change_event it ∷ change_events (map_of it) rest), changes_fewer (map_of it) rest)
+
+pub length-list_spelling : (changes : List Change) → length (list_spelling changes) + 22 * length (items_of_changes changes) ≡ 4 + sum_by size_of (change_events None changes)
+length-list_spelling changes =
+    omega (arith, length-append (le32 (length (items_of_changes changes))) (flat_map item_spelling (items_of_changes changes)), length-le32 (length (items_of_changes changes)), items_sizes (items_of_changes changes))
+
+-- the length of the list form, from the number of its items and the size of their frames
+pub listed_from : (changes one other : List Change) (count number size : ℕ) → one ≡ changes → other ≡ changes → count ≡ length (items_of_changes one) → number ≡ count → size ≡ sum_by size_of (change_events None other)
+    → length (list_spelling changes) + 22 * number ≡ 4 + size
+listed_from changes one other count number size one_is other_is count_is number_is size_is = omega (
+  arith,
+  length-list_spelling changes,
+  number_is,
+  count_is,
+  size_is,
+  ap (λ (l : List Change). length (items_of_changes l)) one_is,
+  ap (λ (l : List Change). sum_by size_of (change_events None l)) other_is,
+)

@@ -123,9 +123,6 @@ pub le64_again : (n : ℕ) → n < 2 ^ 64 → from_le_bytes w64 (le64 n) ≡ n
 unfolding le64
 le64_again n small = from_le_bytes-to_le_bytes_8 n small
 
-pub le16_below : (bytes : List ℕ) → IsBytes bytes → from_le_bytes w16 bytes < 2 ^ 16
-le16_below bytes fits = omega (arith, fits 0, fits 1)
-
 pub le32_below : (bytes : List ℕ) → IsBytes bytes → from_le_bytes w32 bytes < 2 ^ 32
 le32_below bytes fits = omega (arith, fits 0, fits 1, fits 2, fits 3)
 

@@ -1,10 +1,11 @@
 -- Rows: what was read is what was written, and what was written is read again.
-use Rattle.std.proofs.Common.{◌≡◌, ℕ, ℤ, ◌+◌, ◌*◌, ◌/◌, ◌%◌, ◌^◌, ◌<◌, ◌≤◌, Bool, true, false, cond, List, [], ◌∷◌, ◌++◌, length, Option, Some, None, zero, suc, refl, sym, ap, subst, ◌∙◌, append_assoc, arith, inl, inr, FitsSigned}
+use Rattle.std.proofs.Common.{take, drop, drop-cons, add-one, get_or, ◌≡◌, ℕ, ℤ, ◌+◌, ◌*◌, ◌/◌, ◌%◌, ◌^◌, ◌<◌, ◌≤◌, Bool, true, false, cond, List, [], ◌∷◌, ◌++◌, length, Option, Some, None, zero, suc, refl, sym, ap, subst, ◌∙◌, append_assoc, arith, inl, inr, FitsSigned}
 use Rattle.std.specs.Prelude.{nat_le, ◌==◌, All}
 use Rattle.std.specs.Int.{w16, w64, from_le_bytes, cast_signed, cast_unsigned}
 use Rattle.std.specs.List.{flat_map}
 use Rattle.std.proofs.lemmas.Bool.{eqb-true, eqb-false, eq-eqb, ne_eqb, cases_Bool, cond-true, cond-false}
 use Rattle.std.proofs.lemmas.List.Elements.{All-nil, All-cons, All-head, All-tail}
+use Rattle.std.proofs.lemmas.List.{take_all, drop_all}
 use Rattle.std.proofs.lemmas.Nat.{pow_pos}
 use Rattle.std.proofs.Math.Nat.{pow-succ'}
 use Rattle.std.proofs.lemmas.Int.{of_z-to_z, to_z-of_z}
@@ -253,3 +254,24 @@ row_again schema row rest is fits =
     ap (λ (n : ℕ). bits_at n (bits_spelling row ++ (flat_map value_spelling row ++ rest))) (sym parts.0) ∙ bits_again row (flat_map value_spelling row ++ rest) (omega (arith, parts.0, few)) in
     ap (row_at schema) (append_assoc (bits_spelling row) (flat_map value_spelling row) rest)
     ∙ rw bits (values_again schema.columns row rest parts.0 parts.1 fits.in_range)
+
+-- a row whose values were all looked at and taken
+pub passed_row : (schema : Schema) (row : List Value) (columns : List Column) (values : List Value) (i : ℕ) → columns ≡ schema.columns → values ≡ row → length values ≡ length columns → length columns ≤ i
+    → values_refusal (drop i columns) (drop i values) ≡ values_refusal columns values → All IsInRange (take i values) → IsRow schema row
+passed_row schema row columns values i columns_are values_are same past so_far in_range = record {
+  passes = ap (λ (l : List Value). row_refusal schema l) (sym values_are) ∙ ap (λ (l : List Column). cond (length values == length l) (values_refusal l values) (Some ValueCount)) (sym columns_are)
+      ∙ cond-true (length values == length columns) (values_refusal columns values) (Some ValueCount) (eq-eqb (length values) (length columns) same)
+      ∙ sym so_far ∙ ap (λ (l : List Column). values_refusal l (drop i values)) (drop_all i columns past);
+  in_range = subst (All IsInRange) (take_all i values (omega (arith, same, past)) ∙ values_are) in_range;
+}
+
+-- one value more was looked at and taken
+pub refusal_next : (columns : List Column) (values : List Value) (i : ℕ) (column : Column) (value : Value) → i < length columns → length values ≡ length columns → column ≡ get_or columns i column → value ≡ get_or values i value
+    → value_refusal column value ≡ None → values_refusal (drop (i + 1) columns) (drop (i + 1) values) ≡ values_refusal (drop i columns) (drop i values)
+refusal_next columns values i column value within same at_column at_value taken =
+    let split_columns : drop i columns ≡ column ∷ drop (i + 1) columns =
+    drop-cons columns i column within ∙ ap (λ (x : Column). x ∷ drop (suc i) columns) (sym at_column) ∙ ap (λ (n : ℕ). column ∷ drop n columns) (sym (add-one i)) in
+    let split_values : drop i values ≡ value ∷ drop (i + 1) values =
+    drop-cons values i value (omega (arith, within, same)) ∙ ap (λ (x : Value). x ∷ drop (suc i) values) (sym at_value) ∙ ap (λ (n : ℕ). value ∷ drop n values) (sym (add-one i)) in
+    sym (ap (λ (l : List Column). values_refusal l (drop i values)) split_columns ∙ ap (λ (l : List Value). values_refusal (column ∷ drop (i + 1) columns) l) split_values
+    ∙ ap (λ (o : Option Refusal). first_of_two o (values_refusal (drop (i + 1) columns) (drop (i + 1) values))) taken)

@@ -132,34 +132,8 @@ told_takes before (event ∷ events) told known fits is = elim (cases_Bool (even
       })
 ]
 
--- the transaction that was read is the one whose events stand in front
-pub record TransactionFrom (events : List Event) (it : Transaction × List Event) : Type 0 where
-  pub are : events ≡ events_of it.0 ++ it.1
-  pub fit : IsFit it.0
-
 pub begin_is : (event : Event) → is_begin event ≡ true → event ≡ begin
 begin_is event is =
     let parts = and_parts (event.kind == 2) (bytes_eq event.body (1 ∷ [])) is in
     ap (λ (k : ℕ). record { kind = k; body = event.body }) (eqb-true event.kind 2 parts.0)
     ∙ ap (λ (l : List ℕ). record { kind = 2; body = l }) ((bytes_eq-Decides event.body (1 ∷ [])).0 parts.1)
-
-pub transaction_takes : (events : List Event) (it : Transaction × List Event) → AreByteEvents events → transaction_in events ≡ Some it → TransactionFrom events it
-unfolding transaction_in
-transaction_takes [] it fits is = absurd cc
-transaction_takes (event ∷ events) it fits is = elim (cases_Bool (is_begin event)) [
-  | inl first ↦
-      let a = bind_some (told_in Other events) (λ told. where_so (nat_lt 0 (length told.changes)) (record { xid = told.xid; changes = told.changes }, told.behind)) it
-      (sym (cond-true (is_begin event) (told_in Other events >>= λ told. where_so (nat_lt 0 (length told.changes)) (record { xid = told.xid; changes = told.changes }, told.behind)) None first) ∙ is) in
-      let found = where_some (nat_lt 0 (length a.0.changes)) (record { xid = a.0.xid; changes = a.0.changes }, a.0.behind) it a.2 in
-      let told = told_takes Other events a.0 tt fits.1 a.1 in
-      subst (TransactionFrom (event ∷ events)) {x = (record { xid = a.0.xid; changes = a.0.changes }, a.0.behind)} found.1 (record {
-        are =
-            ap (λ (e : Event). e ∷ events) (begin_is event first)
-            ∙ ap (λ (l : List Event). begin ∷ l) (told.are ∙ sym (append_assoc (change_events None a.0.changes) (xid_event a.0.xid ∷ []) a.0.behind));
-        fit = record { xid = told.xid; some = ltb-true _ _ found.0; changes = told.fit };
-      })
-  | inr other ↦ absurd (nothing (sym (cond-false (is_begin event) (told_in Other events >>= λ told. where_so (nat_lt 0 (length told.changes)) (record { xid = told.xid; changes = told.changes }, told.behind)) None other) ∙ is))
-]
-  where
-    nothing : None ≡ Some it → ⊥
-    nothing e = cc

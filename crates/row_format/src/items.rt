@@ -80,8 +80,8 @@ fn items_in(before: Option<&TableMap>, change: &Change) -> u32
     }
 }
 
-// How many items changes have.
-fn count_items(changes: &[Change]) -> u32
+/// How many items changes have.
+pub(crate) fn count_items(changes: &[Change]) -> u32
     requires fit { AreFitChanges changes.now }
     requires few { length (items_of_changes changes.now) < 2 ^ 32 }
     ensures { result ≡ length (items_of_changes changes.now) }

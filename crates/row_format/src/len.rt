@@ -5,10 +5,12 @@ ghost use Rattle.std.specs.Option.{option_copied};
 ghost use Rattle.frame_codec.specs.Frame.{size_of};
 ghost use Rattle.row_format.specs.Schemas.{IsSchema};
 ghost use Rattle.row_format.specs.Rows.{IsRow};
-ghost use Rattle.row_format.specs.Spelling.{kind_spelling, column_spelling, schema_spelling, map_spelling, value_spelling, row_image};
+ghost use Rattle.row_format.specs.Spelling.{kind_spelling, column_spelling, schema_spelling, map_spelling, value_spelling, row_image, HasImage};
 ghost use Rattle.row_format.specs.Changes.{IsMap, IsFitChange, AreFitChanges, change_event, map_told, map_events, change_events};
 ghost use Rattle.row_format.specs.Transaction.{events_of};
+ghost use Rattle.row_format.specs.Items.{AreListed, list_spelling};
 
+use crate::items::count_items;
 use crate::spell::{map_needed, own_map};
 use crate::{Change, Changes, Column, Kind, Row, Schema, TableMap, Value};
 
@@ -24,12 +26,11 @@ fn value_len(value: &Value) -> usize
     }
 }
 
-/// How many bytes the image of a row has that `check_row` takes: 2,000 at most.
-pub fn image_len(schema: &Schema, row: &Row) -> usize
-    requires schema { IsSchema schema.now }
-    requires row { IsRow schema.now row.now }
+/// How many bytes the image of a row has, of at most 16 values and texts of at most 255 bytes.
+pub fn row_len(row: &Row) -> usize
+    requires { HasImage row.now }
     ensures value { result ≡ length (row_image row.now) }
-    ensures within { result ≤ 2000 }
+    ensures small { result ≤ 4098 }
 {
     let values = row.values();
     let mut sum = if values.len() <= 8 { 1 } else { 2 };
@@ -39,6 +40,16 @@ pub fn image_len(schema: &Schema, row: &Row) -> usize
         i += 1;
     }
     sum
+}
+
+/// How many bytes the image of a row has that `check_row` takes: 2,000 at most.
+pub fn image_len(schema: &Schema, row: &Row) -> usize
+    requires schema { IsSchema schema.now }
+    requires row { IsRow schema.now row.now }
+    ensures value { result ≡ length (row_image row.now) }
+    ensures within { result ≤ 2000 }
+{
+    row_len(row)
 }
 
 // How many bytes the spelling of a column has.
@@ -53,8 +64,8 @@ fn column_len(column: &Column) -> u64
     column.name.as_bytes().len() as u64 + kind + 2
 }
 
-// How many bytes the spelling of a schema has.
-fn schema_len(schema: &Schema) -> u64
+/// How many bytes the spelling of a schema has.
+pub fn schema_len(schema: &Schema) -> u64
     requires { IsSchema schema.now }
     ensures value { result ≡ length (schema_spelling schema.now) }
     ensures small { result ≤ 1090 }
@@ -111,9 +122,9 @@ fn change_size(before: Option<&TableMap>, change: &Change) -> u64
 // How many bytes the events of changes have.
 fn changes_size(changes: &[Change]) -> u64
     requires fit { AreFitChanges changes.now }
-    requires few { length changes.now < 2 ^ 31 }
+    requires few { length changes.now < 2 ^ 32 }
     ensures value { result ≡ sum_by size_of (change_events None changes.now) }
-    ensures small { result < 2 ^ 43 }
+    ensures small { result < 2 ^ 44 }
 {
     let mut sum = 0;
     let mut before = None;
@@ -135,4 +146,15 @@ pub fn transaction_len(changes: &Changes) -> u64
         ≡ sum_by size_of (events_of (record { xid = xid; changes = changes.now })) }
 {
     55 + changes_size(changes.as_slice())
+}
+
+/// How many bytes the list form of changes on tables has. No memory is taken.
+pub fn items_len(changes: &Changes) -> u64
+    requires { AreListed changes.now }
+    ensures value { result ≡ length (list_spelling changes.now) }
+    ensures small { result < 2 ^ 45 }
+{
+    // An item has its type and its body: 22 bytes less than its frame.
+    let items = u64::from(count_items(changes.as_slice()));
+    4 + changes_size(changes.as_slice()) - 22 * items
 }

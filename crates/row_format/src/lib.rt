@@ -32,7 +32,7 @@ pub use found::transaction_at;
 pub use image::put_image;
 pub use items::{items_of, put_items};
 pub use laws::{one_list, one_name, one_row, one_schema, one_transaction};
-pub use len::{image_len, transaction_len};
+pub use len::{image_len, items_len, row_len, schema_len, transaction_len};
 pub use log::put_transaction;
 pub use put::{put_name, put_row, put_schema};
 pub use read::{name_of, row_of, schema_of};

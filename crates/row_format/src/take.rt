@@ -1,6 +1,7 @@
 //! Reading names, schemas and rows at the front of some bytes.
 //!
-//! Each reader in parts gives what the reader of the same name on lists gives (`Gives`); the public ones say what that means.
+//! Each reader gives what the reader of the same name on lists gives (`Gives`). What that means is said by the readers of `read.rt`, which
+//! stand on these.
 ghost use Rattle.std.specs.Prelude.{◌≡◌, ◌≤◌, ◌<◌, ℕ, List, length, IfOk, IfSome, IfNone, nat_le, ◌==◌, ◌%◌, ◌/◌};
 ghost use Rattle.sql_value.specs.Names.{IsName};
 ghost use Rattle.row_format.specs.Schemas.{IsSchema};

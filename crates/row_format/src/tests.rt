@@ -1,8 +1,8 @@
 //! Values from outside: bytes that were spelt by hand, and what stands there; limits of schemas; refusals of rows.
 
 use crate::{
-    Change, Column, Kind, Name, Row, Schema, Text, Value, check_row, image_len, items_of, key_of,
-    name_of, put_items, put_name, put_row, put_schema, put_transaction, row_of, schema_of,
+    Change, Column, Kind, Name, Row, Schema, Text, Value, check_row, image_len, items_len, items_of,
+    key_of, name_of, put_items, put_name, put_row, put_schema, put_transaction, row_of, schema_of,
     transaction_at, transaction_len,
 };
 use frame_codec::put_frame;
@@ -123,6 +123,7 @@ fn lists_of_changes_are_read_and_written(rt: HostRuntime) -> Result<(), Fail> {
     assert_eq!(rt; out.len(), len);
     assert!(rt; changes.as_slice().len() < 3);
     assert_eq!(rt; transaction_len(&changes), 100 + 36 + 34);
+    assert_eq!(rt; items_len(&changes), len as u64);
     let mut other = [1u8, 0, 0, 0, 2].to_vec(rt.alloc())?;
     other.extend_from_slice(&INSTALL)?;
     assert!(rt; items_of(rt.alloc(), other.as_slice())?.is_none());

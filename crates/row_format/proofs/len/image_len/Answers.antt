@@ -1,33 +1,10 @@
-use Rattle.std.proofs.Common.{◌≡◌, ◌≤◌, ap, arith, length}
-use Rattle.std.specs.List.{flat_map}
-use Rattle.std.proofs.lemmas.List.{take_all}
-use Rattle.row_format.specs.Spelling.{value_spelling, row_image}
-use Rattle.row_format.proofs.LenLemmas.{image_within, image_more, length-row_image}
+use Rattle.std.proofs.Common.{arith}
+use Rattle.row_format.proofs.ImageLemmas.{has_image}
+use Rattle.row_format.proofs.LenLemmas.{image_within}
 use Rattle.row_format.proofs.len.image_len.Goals as goal
 
-pub overflow_add-sum : goal.overflow_add-sum
-overflow_add-sum c =
-    let list = c.values-values.result.now in
-    let same : list ≡ c.args.row.now = c.values-values.ensures in
-    let more = image_more list c.loop-i.i c.index-values-i.result c.loop-i-test.true c.index-values-i.is in
-    let all : length (row_image list) ≤ 2000 = omega (arith, image_within c.args.schema.now c.args.row.now c.requires.schema c.requires.row, ap (λ l. length (row_image l)) same) in
-    omega (arith, more, all, c.loop-i.invariant.so_far, c.value_len-sum.ensures)
-
-pub returns-clause-value : goal.returns-clause-value
-returns-clause-value c =
-    let list = c.values-values.result.now in
-    let same : list ≡ c.args.row.now = c.values-values.ensures in
-    omega (arith, c.loop-i.invariant.so_far, ap (λ l. length (flat_map value_spelling l)) (take_all c.loop-i.i list c.loop-i-test.false), length-row_image list, ap (λ l. length (row_image l)) same)
+pub row_len-requires : goal.row_len-requires
+row_len-requires c = has_image c.args.schema.now c.args.row.now c.requires.schema c.requires.row
 
 pub returns-clause-within : goal.returns-clause-within
-returns-clause-within c =
-    let list = c.values-values.result.now in
-    let same : list ≡ c.args.row.now = c.values-values.ensures in
-    omega (
-      arith,
-      c.loop-i.invariant.so_far,
-      ap (λ l. length (flat_map value_spelling l)) (take_all c.loop-i.i list c.loop-i-test.false),
-      length-row_image list,
-      ap (λ l. length (row_image l)) same,
-      image_within c.args.schema.now c.args.row.now c.requires.schema c.requires.row,
-    )
+returns-clause-within c = omega (arith, c.row_len.ensures.value, image_within c.args.schema.now c.args.row.now c.requires.schema c.requires.row)

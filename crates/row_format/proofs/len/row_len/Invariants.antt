@@ -2,7 +2,7 @@ use Rattle.std.proofs.Common.{◌≡◌, ◌≤◌, ◌-◌, ◌+◌, length, ta
 use Rattle.std.specs.List.{flat_map}
 use Rattle.row_format.specs.Schemas.{bits_len}
 use Rattle.row_format.specs.Spelling.{value_spelling}
-use Rattle.row_format.proofs.len.image_len.Given as goal
+use Rattle.row_format.proofs.len.row_len.Given as goal
 
 abbrev pub invariant-loop-i : goal.invariant-loop-i
 invariant-loop-i l = record {
