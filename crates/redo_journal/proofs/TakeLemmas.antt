@@ -13,9 +13,11 @@ use Rattle.row_format.specs.declared.change.Change.{Change}
 use Rattle.row_format.specs.Schemas.{IsSchema}
 use Rattle.row_format.specs.Rows.{IsRow}
 use Rattle.row_format.specs.Spelling.{Takes, Begins, counted, schema_spelling, row_image}
-use Rattle.row_format.specs.Items.{list_spelling, AreListed}
-use Rattle.row_format.specs.Absence.{NoName, NoSchema, NoRow, NoList}
-use Rattle.row_format.proofs.LawLemmas.{one_name, one_schema, one_row, one_list}
+use Rattle.binlog_events.specs.Items.{list_spelling, AreListed}
+use Rattle.row_format.specs.Absence.{NoName, NoSchema, NoRow}
+use Rattle.binlog_events.specs.Items.{NoList}
+use Rattle.row_format.proofs.LawLemmas.{one_name, one_schema, one_row}
+use Rattle.binlog_events.proofs.LawLemmas.{one_list}
 use Rattle.log_tables.specs.declared.table.Definition.{Definition}
 use Rattle.log_tables.specs.declared.table.Table.{Table}
 use Rattle.log_tables.specs.declared.gist.Prepared.{Prepared}

@@ -5,7 +5,7 @@ use Rattle.disk_model.specs.Disk.{Disk, now}
 use Rattle.frame_codec.specs.Bytes.{le32, le64}
 use Rattle.frame_codec.proofs.FrameLemmas.{length-le32, length-le64}
 use Rattle.row_format.specs.declared.change.Change.{Change}
-use Rattle.row_format.specs.Items.{list_spelling}
+use Rattle.binlog_events.specs.Items.{list_spelling}
 use Rattle.redo_journal.specs.declared.record.Record.{Record}
 use Rattle.redo_journal.specs.declared.record.Record.TheVariants.{SnapLast, Prepare, Commit}
 use Rattle.redo_journal.specs.declared.journal.Journal.{Journal}

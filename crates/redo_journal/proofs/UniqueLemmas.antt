@@ -9,8 +9,9 @@ use Rattle.row_format.specs.declared.schema.Schema.{Schema}
 use Rattle.row_format.specs.declared.change.Change.{Change}
 use Rattle.row_format.specs.Schemas.{IsSchema}
 use Rattle.row_format.specs.Spelling.{counted, schema_spelling, row_image}
-use Rattle.row_format.specs.Items.{list_spelling, AreListed}
-use Rattle.row_format.proofs.LawLemmas.{one_name, one_schema, one_row, one_list}
+use Rattle.binlog_events.specs.Items.{list_spelling, AreListed}
+use Rattle.row_format.proofs.LawLemmas.{one_name, one_schema, one_row}
+use Rattle.binlog_events.proofs.LawLemmas.{one_list}
 use Rattle.log_tables.specs.declared.table.Definition.{Definition}
 use Rattle.log_tables.specs.declared.table.Table.{Table}
 use Rattle.log_tables.specs.declared.gist.Prepared.{Prepared}

@@ -26,7 +26,7 @@ use Rattle.redo_journal.specs.declared.index.Indexed.{Indexed}
 use Rattle.redo_journal.specs.declared.replay.Replay.{Replay as ReplayIndex}
 use Rattle.sql_value.specs.Names.{IsName}
 use Rattle.row_format.specs.Rows.{IsRow}
-use Rattle.row_format.specs.Items.{AreListed}
+use Rattle.binlog_events.specs.Items.{AreListed}
 use Rattle.redo_journal.specs.Replays.{Replay, IsDefinition, end_behind}
 
 -- the definition of the table that a change makes

@@ -6,7 +6,7 @@ use Rattle.frame_codec.specs.Chain.{chain_of, last_checksum}
 use Rattle.framed_file.specs.Framed.{header_len}
 use Rattle.row_format.specs.Schemas.{IsSchema}
 use Rattle.row_format.specs.Spelling.{Takes, HasImage}
-use Rattle.row_format.specs.Items.{AreListed}
+use Rattle.binlog_events.specs.Items.{AreListed}
 use Rattle.redo_journal.specs.declared.record.Record.{Record}
 use Rattle.redo_journal.specs.declared.record.Record.TheVariants.{SnapTable, SnapRow, SnapLast, Prepare, Commit, Rollback}
 use Rattle.redo_journal.specs.declared.replay.Replay.{Replay as Index}

@@ -3,7 +3,7 @@ use Rattle.std.specs.Prelude.{List, ◌++◌, map}
 use Rattle.frame_codec.specs.Bytes.{le64}
 use Rattle.frame_codec.specs.Frame.{Event}
 use Rattle.row_format.specs.Spelling.{counted, schema_spelling, row_image}
-use Rattle.row_format.specs.Items.{list_spelling}
+use Rattle.binlog_events.specs.Items.{list_spelling}
 use Rattle.redo_journal.specs.declared.record.Record.{Record}
 use Rattle.redo_journal.specs.declared.record.Record.TheVariants.{SnapTable, SnapRow, SnapLast, Prepare, Commit, Rollback}
 

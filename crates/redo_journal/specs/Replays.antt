@@ -5,7 +5,7 @@ use Rattle.sql_value.specs.Names.{IsName}
 use Rattle.frame_codec.specs.Frame.{size_of, limit}
 use Rattle.row_format.specs.Schemas.{IsSchema}
 use Rattle.row_format.specs.Rows.{IsRow}
-use Rattle.row_format.specs.Items.{AreListed}
+use Rattle.binlog_events.specs.Items.{AreListed}
 use Rattle.log_tables.specs.declared.table.Definition.{Definition}
 use Rattle.log_tables.specs.declared.gist.Prepared.{Prepared}
 use Rattle.log_tables.specs.Keys.{inserted}

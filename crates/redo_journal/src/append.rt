@@ -2,10 +2,9 @@
 //!
 //! A record is one write at the end of its area. The first one of a journal without an area makes the first area before: `cut, sync,
 //! header, sync, gate byte, sync, write`.
-ghost use Rattle.std.specs.Prelude.{◌≡◌, ◌≤◌, ◌<◌, ◌+◌, ◌⊎◌, ◌++◌, ◌∷◌, [], ℕ, List, length, Option, Some, None, OnOk, OnErr, IfOk, IsErr, IsErrOf, IsTrue, Err};
-ghost use Rattle.fault_counts.specs.Rose.{Rose};
-ghost use Rattle.disk_model.specs.File.{Writes, Syncs};
-ghost use Rattle.disk_model.specs.Disk.{Disk, Called, now, contents, Keeps, HasCause};
+ghost use Rattle.std.specs.Prelude.{◌≡◌, ◌≤◌, ◌<◌, ◌+◌, ℕ, List, Some, None, OnOk, IfOk, IsErr, IsErrOf, IsTrue, Err};
+ghost use Rattle.disk_model.specs.File.{Writes};
+ghost use Rattle.disk_model.specs.Disk.{now, HasCause};
 ghost use Rattle.framed_file.specs.Framed.{header_len};
 ghost use Rattle.redo_journal.specs.declared.record.Record.{Record as Entry};
 ghost use Rattle.redo_journal.specs.declared.fault.JournalFault.TheVariants.{Device, NotAVolume, Memory};

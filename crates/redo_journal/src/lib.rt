@@ -3,8 +3,8 @@
 //! One idea makes it right: a file counts only once its gate is open, and the gate is opened by a write of its own behind a sync of
 //! all else. Behind the header records are only added, so that a crash leaves a first part of them, with all that were synced.
 //!
-//! It stands on `disk_model` (files and their crash images), `frame_codec` and `framed_file` (chained frames), `row_format` (how values
-//! are spelt) and `log_tables` (what changes make of tables).
+//! It stands on `disk_model` (files and their crash images), `frame_codec` and `framed_file` (chained frames), `row_format` (how rows
+//! are spelt), `binlog_events` (how changes are) and `log_tables` (what changes make of tables).
 #![tactic(auto)]
 
 mod append;

@@ -6,7 +6,7 @@ ghost use Rattle.frame_codec.specs.Short.{short_bytes};
 ghost use Rattle.framed_file.specs.Framed.{header_len};
 ghost use Rattle.row_format.specs.Schemas.{IsSchema};
 ghost use Rattle.row_format.specs.Spelling.{HasImage};
-ghost use Rattle.row_format.specs.Items.{AreListed};
+ghost use Rattle.binlog_events.specs.Items.{AreListed};
 ghost use Rattle.redo_journal.specs.declared.record.Record.{Record as Entry};
 ghost use Rattle.redo_journal.specs.declared.record.Record.TheVariants.{SnapTable, SnapRow, Prepare};
 ghost use Rattle.redo_journal.specs.Records.{record_event};
@@ -14,11 +14,10 @@ ghost use Rattle.redo_journal.specs.Replays.{start, after_records, end_behind, F
 ghost use Rattle.redo_journal.specs.Reading.{IsSpellable, is_short};
 
 use crate::Record;
+use binlog_events::{items_len, put_items};
 use frame_codec::{ShortFrame, put_frame};
 use log_tables::{Definition, Prepared};
-use row_format::{
-    Name, Row, items_len, put_image, put_items, put_name, put_schema, row_len, schema_len,
-};
+use row_format::{Name, Row, put_image, put_name, put_schema, row_len, schema_len};
 use std::alloc::{AllocError, Global};
 
 /// The type of a SnapTable.

@@ -11,8 +11,9 @@ use crate::Record;
 use crate::front::{front_name, front_number, number_of};
 use crate::replay::Replay;
 use crate::spell::{COMMIT, PREPARE, ROLLBACK, SNAP_LAST, SNAP_ROW, SNAP_TABLE};
+use binlog_events::items_of;
 use log_tables::{Definition, Prepared};
-use row_format::{items_of, row_of, schema_of};
+use row_format::{row_of, schema_of};
 use std::alloc::{AllocError, Global};
 
 // The SnapTable with this body.

@@ -3,19 +3,15 @@ use Rattle.std.proofs.Common.{◌≡◌, ℕ, ◌-◌, ◌≤◌, List, ◌++◌
 use Rattle.std.proofs.lemmas.List.{drop_at}
 use Rattle.sql_value.specs.declared.value.Value.{Value}
 use Rattle.row_format.specs.declared.schema.Schema.{Schema}
-use Rattle.row_format.specs.declared.change.Change.{Change}
 use Rattle.sql_value.specs.Names.{IsName}
 use Rattle.row_format.specs.Schemas.{IsSchema}
 use Rattle.row_format.specs.Rows.{IsRow}
 use Rattle.row_format.specs.Spelling.{Takes, Begins, counted, schema_spelling, row_image}
-use Rattle.row_format.specs.Items.{list_spelling, AreListed}
 use Rattle.row_format.specs.Reading.{name_at, schema_at, row_at}
-use Rattle.row_format.specs.Walking.{list_at}
-use Rattle.row_format.specs.Absence.{NoName, NoSchema, NoRow, NoList}
+use Rattle.row_format.specs.Absence.{NoName, NoSchema, NoRow}
 use Rattle.row_format.proofs.PieceLemmas.{IsBytes, Took, name_takes, name_again}
 use Rattle.row_format.proofs.SchemaLemmas.{schema_takes, schema_again}
 use Rattle.row_format.proofs.RowLemmas.{row_takes, row_again}
-use Rattle.row_format.proofs.ListLemmas.{list_takes, list_again}
 
 -- how many bytes were read
 pub took_length : (bytes text rest : List ℕ) → Took bytes text rest → length text ≡ length bytes - length rest
@@ -24,13 +20,13 @@ took_length bytes text rest took = omega (arith, ap length took.takes, length-ap
 pub took_within : (bytes text rest : List ℕ) → Took bytes text rest → length rest ≤ length bytes
 took_within bytes text rest took = omega (arith, ap length took.takes, length-append text rest)
 
-begins : (bytes text rest : List ℕ) (count : ℕ) → Took bytes text rest → count ≡ length bytes - length rest → Begins bytes text count
+pub begins : (bytes text rest : List ℕ) (count : ℕ) → Took bytes text rest → count ≡ length bytes - length rest → Begins bytes text count
 begins bytes text rest count took at =
     let len : length text ≡ count = took_length bytes text rest took ∙ sym at in
     let behind : drop count bytes ≡ rest = ap (drop count) took.takes ∙ drop_at text rest count len in
     record { takes = took.takes ∙ ap (λ (l : List ℕ). text ++ l) (sym behind); len = sym len }
 
-nothing_read : {A : Type 0} (read : List ℕ → Option A) (bytes text rest : List ℕ) (it : A) → read bytes ≡ None → Takes bytes text rest → read (text ++ rest) ≡ Some it → ⊥
+pub nothing_read : {A : Type 0} (read : List ℕ → Option A) (bytes text rest : List ℕ) (it : A) → read bytes ≡ None → Takes bytes text rest → read (text ++ rest) ≡ Some it → ⊥
 nothing_read read bytes text rest it none takes again = impossible (sym none ∙ ap read takes ∙ again)
   where
     impossible : None ≡ Some it → ⊥
@@ -70,15 +66,3 @@ row_found schema bytes row rest count fits is at =
 
 pub no_row : (schema : Schema) (bytes : List ℕ) → IsSchema schema → row_at schema bytes ≡ None → NoRow schema bytes
 no_row schema bytes fits none row rest is takes = nothing_read (row_at schema) bytes (row_image row) rest (row, rest) none takes (row_again schema row rest fits is)
-
-pub list_within : (bytes : List ℕ) (changes : List Change) (rest : List ℕ) → IsBytes bytes → list_at bytes ≡ Some (changes, rest) → length rest ≤ length bytes
-list_within bytes changes rest fits is = took_within bytes (list_spelling changes) rest (list_takes bytes (changes, rest) fits is).0
-
-pub list_found : (bytes : List ℕ) (changes : List Change) (rest : List ℕ) (count : ℕ) → IsBytes bytes → list_at bytes ≡ Some (changes, rest) → count ≡ length bytes - length rest
-    → AreListed changes × Begins bytes (list_spelling changes) count
-list_found bytes changes rest count fits is at =
-    let took = list_takes bytes (changes, rest) fits is in
-    (took.1, begins bytes (list_spelling changes) rest count took.0 at)
-
-pub no_list : (bytes : List ℕ) → list_at bytes ≡ None → NoList bytes
-no_list bytes none changes rest is takes = nothing_read list_at bytes (list_spelling changes) rest (changes, rest) none takes (list_again changes rest is)

@@ -2,20 +2,16 @@
 use Rattle.std.proofs.Common.{◌≡◌, ℕ, List, ◌++◌, Option, Some, sym, ◌∙◌, ap}
 use Rattle.sql_value.specs.declared.value.Value.{Value}
 use Rattle.row_format.specs.declared.schema.Schema.{Schema}
-use Rattle.row_format.specs.declared.change.Change.{Change}
 use Rattle.row_format.specs.Schemas.{IsSchema}
 use Rattle.row_format.specs.Rows.{IsRow}
 use Rattle.row_format.specs.Spelling.{counted, schema_spelling, row_image}
-use Rattle.row_format.specs.Items.{list_spelling, AreListed}
 use Rattle.row_format.specs.Reading.{counted_at, schema_at, row_at}
-use Rattle.row_format.specs.Walking.{list_at}
 use Rattle.row_format.proofs.PieceLemmas.{some_is, counted_again}
 use Rattle.row_format.proofs.SchemaLemmas.{schema_again}
 use Rattle.row_format.proofs.RowLemmas.{row_again}
-use Rattle.row_format.proofs.ListLemmas.{list_again}
 
 -- what is read back from two spellings with one text is one
-read_once : {A : Type 0} (read : List ℕ → Option (A × List ℕ)) (spelling : A → List ℕ) (a b : A) (x y : List ℕ)
+pub read_once : {A : Type 0} (read : List ℕ → Option (A × List ℕ)) (spelling : A → List ℕ) (a b : A) (x y : List ℕ)
     → read (spelling a ++ x) ≡ Some (a, x) → read (spelling b ++ y) ≡ Some (b, y) → spelling a ++ x ≡ spelling b ++ y → (a ≡ b) × (x ≡ y)
 read_once {A} read spelling a b x y of_a of_b is =
     let both = some_is (a, x) (b, y) (sym of_a ∙ ap read is ∙ of_b) in
@@ -29,6 +25,3 @@ one_schema s t x y fits_s fits_t is = read_once schema_at schema_spelling s t x 
 
 pub one_row : (schema : Schema) (r s : List Value) (x y : List ℕ) → IsSchema schema → IsRow schema r → IsRow schema s → row_image r ++ x ≡ row_image s ++ y → (r ≡ s) × (x ≡ y)
 one_row schema r s x y fits fits_r fits_s is = read_once (row_at schema) row_image r s x y (row_again schema r x fits fits_r) (row_again schema s y fits fits_s) is
-
-pub one_list : (c d : List Change) (x y : List ℕ) → AreListed c → AreListed d → list_spelling c ++ x ≡ list_spelling d ++ y → (c ≡ d) × (x ≡ y)
-one_list c d x y fits_c fits_d is = read_once list_at list_spelling c d x y (list_again c x fits_c) (list_again d y fits_d) is

@@ -5,12 +5,6 @@ pub mod ImageLemmas
 pub mod AddLemmas
 pub mod FrontLemmas
 pub mod SameLemmas
-pub mod WalkLemmas
-pub mod ListLemmas
-pub mod TransactionLemmas
 pub mod LawLemmas
 pub mod FoundLemmas
-pub mod ItemFrontLemmas
-pub mod WriteLemmas
-pub mod LogLemmas
 pub mod LenLemmas

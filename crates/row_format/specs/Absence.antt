@@ -2,12 +2,10 @@
 use Rattle.std.specs.Prelude.{ℕ, List}
 use Rattle.sql_value.specs.declared.value.Value.{Value}
 use Rattle.row_format.specs.declared.schema.Schema.{Schema}
-use Rattle.row_format.specs.declared.change.Change.{Change}
 use Rattle.sql_value.specs.Names.{IsName}
 use Rattle.row_format.specs.Schemas.{IsSchema}
 use Rattle.row_format.specs.Rows.{IsRow}
 use Rattle.row_format.specs.Spelling.{Takes, counted, schema_spelling, row_image}
-use Rattle.row_format.specs.Items.{list_spelling, AreListed}
 
 -- no name stands at the front
 abbrev pub NoName : List ℕ → Type 0
@@ -20,7 +18,3 @@ NoSchema bytes = (schema : Schema) (rest : List ℕ) → IsSchema schema → Tak
 -- no image of a row that the schema takes stands at the front
 abbrev pub NoRow : Schema → List ℕ → Type 0
 NoRow schema bytes = (row : List Value) (rest : List ℕ) → IsRow schema row → Takes bytes (row_image row) rest → ⊥
-
--- no list form of changes stands at the front
-abbrev pub NoList : List ℕ → Type 0
-NoList bytes = (changes : List Change) (rest : List ℕ) → AreListed changes → Takes bytes (list_spelling changes) rest → ⊥

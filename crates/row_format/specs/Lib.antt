@@ -2,10 +2,5 @@ pub mod Schemas
 pub mod Rows
 pub mod Spelling
 pub mod Changes
-pub mod Items
-pub mod Transaction
-pub mod Found
-pub mod Frames
 pub mod Absence
 pub mod Reading
-pub mod Walking

@@ -4,9 +4,9 @@ ghost use Rattle.row_format.specs.declared.fault.Unread.TheVariants.{Memory};
 
 use std::alloc::{AllocError, AllocFailed};
 
-/// Why a reader of this crate gives nothing.
+/// Why a reader in parts gives nothing.
 #[derive(Clone, Copy, Debug, PartialEq, Eq)]
-pub(crate) enum Unread {
+pub enum Unread {
     /// Nothing of it stands at the front of the bytes.
     Absent,
     /// There was no memory.

@@ -1,7 +1,7 @@
 //! Writing names, schemas and rows at the end of some bytes.
 //!
-//! A writer in parts leaves what was there in front, also where memory runs out within it (`Adds`); the public ones then take back
-//! what they had written.
+//! A writer in parts (`add_schema`) leaves what was there in front, also where memory runs out within it (`Adds`), so that a greater one
+//! can go on behind it; the others (`put_schema`) then take back what they had written.
 ghost use Rattle.std.specs.Int.{w64, cast_unsigned};
 ghost use Rattle.std.specs.Prelude.{◌≡◌, ◌≤◌, ◌+◌, ◌++◌, ◌∷◌, [], length, take, vec_len, OnOk, OnErr, is_ok, if◌then◌else◌};
 ghost use Rattle.std.specs.List.{flat_map};
@@ -14,8 +14,8 @@ ghost use Rattle.row_format.specs.Spelling.{Adds, counted, kind_spelling, flag_b
 use crate::{Column, Kind, Name, Row, Schema, TableMap, Value};
 use std::alloc::AllocError;
 
-// Adds a length byte and the bytes.
-pub(crate) fn add_counted(bytes: &[u8], out: &mut Vec<u8>) -> Result<(), AllocError>
+/// Adds a length byte and the bytes. Where memory runs out, what was there still stands in front.
+pub fn add_counted(bytes: &[u8], out: &mut Vec<u8>) -> Result<(), AllocError>
     requires { length bytes.now ≤ 255 }
     ensures { Adds result out.old.items out.new.items (counted bytes.now) }
 {
@@ -136,8 +136,8 @@ pub(crate) fn add_bits(values: &[Value], out: &mut Vec<u8>) -> Result<(), AllocE
     }
 }
 
-// Adds a row image.
-pub(crate) fn add_row(schema: &Schema, row: &Row, out: &mut Vec<u8>) -> Result<(), AllocError>
+/// Adds a row image. Where memory runs out, what was there still stands in front.
+pub fn add_row(schema: &Schema, row: &Row, out: &mut Vec<u8>) -> Result<(), AllocError>
     requires schema { IsSchema schema.now }
     requires row { IsRow schema.now row.now }
     ensures { Adds result out.old.items out.new.items (row_image row.now) }
@@ -146,8 +146,8 @@ pub(crate) fn add_row(schema: &Schema, row: &Row, out: &mut Vec<u8>) -> Result<(
     add_values(schema.columns.as_slice(), row.values(), out)
 }
 
-// Adds a schema.
-pub(crate) fn add_schema(schema: &Schema, out: &mut Vec<u8>) -> Result<(), AllocError>
+/// Adds a schema. Where memory runs out, what was there still stands in front.
+pub fn add_schema(schema: &Schema, out: &mut Vec<u8>) -> Result<(), AllocError>
     requires { IsSchema schema.now }
     ensures { Adds result out.old.items out.new.items (schema_spelling schema.now) }
 {
@@ -157,8 +157,8 @@ pub(crate) fn add_schema(schema: &Schema, out: &mut Vec<u8>) -> Result<(), Alloc
     add_columns(columns, out)
 }
 
-// Adds a table map.
-pub(crate) fn add_map(map: &TableMap, out: &mut Vec<u8>) -> Result<(), AllocError>
+/// Adds a table map. Where memory runs out, what was there still stands in front.
+pub fn add_map(map: &TableMap, out: &mut Vec<u8>) -> Result<(), AllocError>
     requires { IsMap map.now }
     ensures { Adds result out.old.items out.new.items (map_spelling map.now) }
 {
@@ -166,12 +166,8 @@ pub(crate) fn add_map(map: &TableMap, out: &mut Vec<u8>) -> Result<(), AllocErro
     add_schema(&map.schema, out)
 }
 
-// Takes back what stands behind the first bytes, where that is unfinished.
-pub(crate) fn finish(
-    done: Result<(), AllocError>,
-    len: usize,
-    out: &mut Vec<u8>,
-) -> Result<(), AllocError>
+/// Takes back what stands behind the first bytes, where that is unfinished.
+pub fn finish(done: Result<(), AllocError>, len: usize, out: &mut Vec<u8>) -> Result<(), AllocError>
     ensures same { is_ok result ≡ is_ok done }
     ensures items { out.new.items ≡ (if is_ok done then out.old.items else take len out.old.items) }
 {

@@ -13,8 +13,8 @@ use crate::fault::Unread;
 use crate::{Column, Kind, Name, Row, Schema, TableMap, Text, Value};
 use std::alloc::{AllocError, Global};
 
-// One byte.
-pub(crate) fn take_byte(bytes: &[u8]) -> Result<(u8, &[u8]), Unread>
+/// One byte, and what follows it.
+pub fn take_byte(bytes: &[u8]) -> Result<(u8, &[u8]), Unread>
     ensures { Gives (λ x. (x.0, x.1.now)) result (byte_at bytes.now) }
 {
     match bytes {
@@ -25,7 +25,7 @@ pub(crate) fn take_byte(bytes: &[u8]) -> Result<(u8, &[u8]), Unread>
 
 // So many bytes.
 #[tactic(auto, unfolding(crate::specs::Reading::piece_at))]
-pub(crate) fn take_piece(n: usize, bytes: &[u8]) -> Result<(&[u8], &[u8]), Unread>
+fn take_piece(n: usize, bytes: &[u8]) -> Result<(&[u8], &[u8]), Unread>
     ensures { Gives (λ x. (x.0.now, x.1.now)) result (piece_at n bytes.now) }
 {
     if n <= bytes.len() {
@@ -44,9 +44,9 @@ fn take_counted(bytes: &[u8]) -> Result<(&[u8], &[u8]), Unread>
     take_piece(n as usize, rest)
 }
 
-// A name.
+/// A name, and what follows it.
 #[tactic(auto, unfolding(crate::specs::Reading::name_at))]
-pub(crate) fn take_name(alloc: Global, bytes: &[u8]) -> Result<(Name, &[u8]), Unread>
+pub fn take_name(alloc: Global, bytes: &[u8]) -> Result<(Name, &[u8]), Unread>
     ensures { Gives (λ x. (x.0, x.1.now)) result (name_at bytes.now) }
 {
     let (name, rest) = take_counted(bytes)?;
@@ -127,9 +127,9 @@ fn key_from(byte: u8) -> Option<u8>
     if byte == 255 { None } else { Some(byte) }
 }
 
-// A schema.
+/// A schema, and what follows it.
 #[tactic(auto, unfolding(crate::specs::Reading::schema_at))]
-pub(crate) fn take_schema(alloc: Global, bytes: &[u8]) -> Result<(Schema, &[u8]), Unread>
+pub fn take_schema(alloc: Global, bytes: &[u8]) -> Result<(Schema, &[u8]), Unread>
     ensures { Gives (λ x. (x.0, x.1.now)) result (schema_at bytes.now) }
 {
     let (count, rest) = take_byte(bytes)?;
@@ -141,9 +141,9 @@ pub(crate) fn take_schema(alloc: Global, bytes: &[u8]) -> Result<(Schema, &[u8])
     }
 }
 
-// A table map.
+/// A table map, and what follows it.
 #[tactic(auto, unfolding(crate::specs::Reading::map_at))]
-pub(crate) fn take_map(alloc: Global, bytes: &[u8]) -> Result<(TableMap, &[u8]), Unread>
+pub fn take_map(alloc: Global, bytes: &[u8]) -> Result<(TableMap, &[u8]), Unread>
     ensures { Gives (λ x. (x.0, x.1.now)) result (map_at bytes.now) }
 {
     let (table, rest) = take_name(alloc, bytes)?;
@@ -245,9 +245,9 @@ fn take_values<'a>(
     }
 }
 
-// A row image.
+/// A row image of a table with this schema, and what follows it.
 #[tactic(auto, unfolding(crate::specs::Reading::row_at))]
-pub(crate) fn take_row<'a>(
+pub fn take_row<'a>(
     alloc: Global,
     schema: &Schema,
     bytes: &'a [u8],

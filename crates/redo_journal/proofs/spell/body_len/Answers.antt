@@ -1,5 +1,5 @@
 use Rattle.std.proofs.Common.{◌+◌, length, sym, ◌∙◌, ap}
-use Rattle.row_format.specs.Items.{list_spelling}
+use Rattle.binlog_events.specs.Items.{list_spelling}
 use Rattle.redo_journal.specs.Records.{record_event}
 use Rattle.redo_journal.proofs.SpellLemmas.{length-number, length-pair, length-prepared}
 use Rattle.redo_journal.proofs.spell.body_len.Goals as goal

@@ -1,6 +1,6 @@
 use Rattle.std.proofs.Common.{◌∙◌, ap, List, ℕ, ◌++◌}
 use Rattle.frame_codec.specs.Bytes.{le64}
-use Rattle.row_format.specs.Items.{list_spelling}
+use Rattle.binlog_events.specs.Items.{list_spelling}
 use Rattle.redo_journal.proofs.spell.prepare_body.Goals as goal
 
 pub returns : goal.returns

@@ -1,0 +1,9 @@
+pub mod WriteLemmas
+pub mod WalkLemmas
+pub mod ListLemmas
+pub mod ItemFrontLemmas
+pub mod TransactionLemmas
+pub mod LogLemmas
+pub mod LenLemmas
+pub mod FoundLemmas
+pub mod LawLemmas
