@@ -35,7 +35,8 @@ fn put_map_event(
 ) -> Result<End, AllocError>
     requires map { IfSome map (λ m. IsMap m.now) }
     requires ends { EndsWithin start.at (map_told (option_copied map)) }
-    ensures chains { Chains result start out.old.items out.new.items (map_told (option_copied map.entry)) }
+    ensures chains { Chains result start out.old.items out.new.items
+        (map_told (option_copied map.entry)) }
 {
     match map {
         None => Ok(start),
@@ -56,7 +57,8 @@ fn put_own_event(
 ) -> Result<End, AllocError>
     requires fit { IsFitChange change.now }
     requires ends { EndsWithin start.at (change_event change.now ∷ []) }
-    ensures chains { Chains result start out.old.items out.new.items (change_event change.now ∷ []) }
+    ensures chains { Chains result start out.old.items out.new.items
+        (change_event change.now ∷ []) }
 {
     body.clear();
     add_body(change, body)?;
@@ -90,7 +92,8 @@ fn put_changes(
 ) -> Result<End, AllocError>
     requires fit { AreFitChanges changes.now }
     requires ends { EndsWithin start.at (change_events None changes.now) }
-    ensures chains { Chains result start out.old.items out.new.items (change_events None changes.now) }
+    ensures chains { Chains result start out.old.items out.new.items
+        (change_events None changes.now) }
 {
     let mut end = start;
     let mut before = None;

@@ -36,7 +36,8 @@ pub(crate) fn own_map(change: &Change) -> Option<&TableMap>
 /// The table map that stands before a change, behind a change with this table map or with none.
 pub(crate) fn map_needed<'a>(before: Option<&TableMap>, change: &'a Change) -> Option<&'a TableMap>
     requires { IsFitChange change.now }
-    ensures value { map_told (option_copied result) ≡ map_events (option_copied before.entry) change.now }
+    ensures value { map_told (option_copied result)
+        ≡ map_events (option_copied before.entry) change.now }
     ensures map { IfSome result (λ m. IsMap m.now) }
 {
     let Change::Insert { map, .. } = change else {

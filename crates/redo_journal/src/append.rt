@@ -151,7 +151,8 @@ impl Journal {
         ensures journal { OnOk result (StandsForMore entry.now self.old self.new) }
         ensures ok { OnOk result
             (KeepsMore entry.now self.old (disk volume.old) self.new (disk volume.new)) }
-        ensures any_moment { LosesNoneBehind entry.now self.old (disk volume.old) (disk volume.new) }
+        ensures any_moment { LosesNoneBehind entry.now
+            self.old (disk volume.old) (disk volume.new) }
         ensures memory { result ≡ Err Memory
             → (self.new ≡ self.old) × (disk volume.new ≡ disk volume.old) }
         ensures takes_none { IsTrue (is_short entry.now) → result ≡ Err Memory → ⊥ }
@@ -181,7 +182,8 @@ impl Journal {
     /// `Failed` where the device failed; then the journal is only dropped, or opened again.
     pub fn sync(&mut self, volume: &mut dyn Storage) -> Result<(), Failed>
         ensures same { self.new ≡ self.old }
-        ensures ok { OnOk result (KeepsSynced self.old (disk volume.old) self.new (disk volume.new)) }
+        ensures ok { OnOk result
+            (KeepsSynced self.old (disk volume.old) self.new (disk volume.new)) }
         ensures any_moment { LosesNone self.old (disk volume.old) (disk volume.new) }
         ensures device { HasCause IsErr result (disk volume.old) (disk volume.new) }
         ensures device_calls { (disk volume.new).calls ≤ (disk volume.old).calls + 1 }

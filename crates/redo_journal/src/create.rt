@@ -29,7 +29,8 @@ pub(crate) fn write_at(
     at: u64,
     bytes: &[u8],
 ) -> Result<(), Failed>
-    requires within { IsTrue (disk volume.old).told → at ≤ length (contents (disk volume.old) file) }
+    requires within { IsTrue (disk volume.old).told
+        → at ≤ length (contents (disk volume.old) file) }
     ensures called { Called file (Writes at bytes.now result) result
         (disk volume.old) (disk volume.new) }
 {
