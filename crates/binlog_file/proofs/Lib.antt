@@ -9,3 +9,4 @@ pub mod CallLemmas
 pub mod WalkLemmas
 pub mod StagedLemmas
 pub mod OpenLemmas
+pub mod EventsLemmas

@@ -7,3 +7,4 @@ pub mod Reading
 pub mod Writing
 pub mod Opening
 pub mod Staged
+pub mod Events

@@ -24,7 +24,7 @@ mod write;
 
 pub use binlog::Binlog;
 pub use fault::BinlogFault;
-pub use laws::{no_transaction_begins_another, one_log};
+pub use laws::{events_are_shared, no_transaction_begins_another, one_log};
 pub use open_log::Opened;
 pub use plain::logged_in;
 pub use read::{Found, transaction_at};
