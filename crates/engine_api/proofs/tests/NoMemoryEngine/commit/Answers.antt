@@ -1,0 +1,5 @@
+use Rattle.engine_api.proofs.TestLemmas.{nothing_done}
+use Rattle.engine_api.proofs.tests.NoMemoryEngine.commit.Goals as goal
+
+pub returns-clause-turns : goal.returns-clause-turns
+returns-clause-turns g c = nothing_done _ _ _ _ _ tt (λ is. let e = is in cc)

@@ -1,0 +1,6 @@
+pub mod Codes
+pub mod States
+pub mod Live
+pub mod Reads
+pub mod Calls
+pub mod Many

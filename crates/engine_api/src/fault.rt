@@ -1,0 +1,43 @@
+//! Why a call of an engine was refused.
+ghost use Rattle.std.specs.Prelude.{◌≡◌};
+ghost use Rattle.engine_api.specs.Codes.{code_number};
+
+/// The handler codes that are used. (MySQL Internals Manual, "Custom Engines"; the numbers are those of `my_base.h`.)
+#[derive(Clone, Copy, Debug, PartialEq, Eq)]
+pub enum Code {
+    /// 120: no row has this key, or no row stands at this place.
+    KeyNotFound,
+    /// 121: a row has this key.
+    Duplicate,
+    /// 135: the engine's live bytes, or its journal, would pass their limit.
+    Full,
+    /// 137: there is no row behind the last one.
+    EndOfFile,
+}
+
+impl Code {
+    /// Its number.
+    pub fn number(self) -> u16
+        ensures { result ≡ code_number self }
+    {
+        match self {
+            Code::KeyNotFound => 120,
+            Code::Duplicate => 121,
+            Code::Full => 135,
+            Code::EndOfFile => 137,
+        }
+    }
+}
+
+/// Why a call of an engine was refused.
+#[derive(Clone, Copy, Debug, PartialEq, Eq)]
+pub enum EngineFault {
+    /// A handler code.
+    Code(Code),
+    /// The device failed. The engine is only dropped then, or begun anew by `init`.
+    Device,
+    /// This file of the engine is not what its format says.
+    NotAVolume { file: u32 },
+    /// There was no memory. All is as it was.
+    Memory,
+}
