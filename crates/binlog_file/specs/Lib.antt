@@ -6,4 +6,3 @@ pub mod Found
 pub mod Reading
 pub mod Writing
 pub mod Opening
-pub mod Staged
