@@ -16,7 +16,7 @@ use Rattle.plugd.specs.declared.server.Server.{Server}
 use Rattle.plugd.specs.Serve.{Base, Serving, Halts}
 use Rattle.std.specs.declared.alloc.AllocError.{AllocError}
 use Rattle.plugd.specs.Session.{Standing, Starved, Takes}
-use Rattle.plugd.specs.Piece.{Written, Broken, PlaysBytes, Closes}
+use Rattle.plugd.specs.Piece.{Written, wrote, Broken, PlaysBytes, Closes}
 
 -- the replies were written
 pub spoken_all : (base : Base) (taken spoken : List ℕ) (mid new : Session) (disk : Disk) → Standing base taken spoken mid disk → new.server ≡ mid.server → new.front ≡ mid.front → new.replies.items ≡ []
@@ -126,7 +126,7 @@ closed old new result start end w some plays = record {
 }
 
 pub closed_none : (session : Session) (disk : Disk) (held : Option (List ℕ)) (faults : ℕ) → length session.front.items ≡ 0
-    → Closes session session (Ok tt) disk disk (record { before = held; after = held; faults = faults; faults_after = faults })
+    → Closes session session (Ok tt) disk disk (wrote held faults held faults)
 closed_none session disk held faults none = record {
   no_fewer = omega arith;
   ok = λ base taken spoken s told is. (

@@ -10,7 +10,7 @@ use Rattle.plugd.specs.declared.session.Session.{Session}
 use Rattle.plugd.specs.Lines.{Splits, AreFirst}
 use Rattle.plugd.specs.Reply.{text_of}
 use Rattle.plugd.specs.Serve.{Base}
-use Rattle.plugd.specs.Session.{input_limit, World, FaultsGoOn, Reading, Ends}
+use Rattle.plugd.specs.Session.{input_limit, World, world, FaultsGoOn, Reading, Ends}
 use Rattle.plugd.specs.Piece.{Written, Broken, PlaysBytes, Closes, PlaysPiece}
 use Rattle.plugd.proofs.ServeLemmas.{halts_of}
 use Rattle.plugd.proofs.LineLemmas.{first_of}
@@ -41,7 +41,7 @@ spoken_are base start taken session w r =
 -- a read failed
 pub source_failed : (room : ℕ) (base : Base) (start : World) (taken : List ℕ) (session : Session) (w : World) (left : Option (List ℕ)) (faults : ℕ) → Reading base start taken session w → length taken + room ≡ input_limit
     → left ≡ w.left → Rose w.source_faults faults → w.source_faults ≤ faults
-    → Ends base start SourceFailed session.server (record { disk = w.disk; left = left; held = w.held; source_faults = faults; sink_faults = w.sink_faults })
+    → Ends base start SourceFailed session.server (world w.disk left faults w.held w.sink_faults)
 source_failed room base start taken session w left faults r full same rose more = record {
   read = taken;
   lines = r.standing.lines;
@@ -57,7 +57,7 @@ source_failed room base start taken session w left faults r full same rose more 
 -- the input came to its end
 pub input_ended : (room : ℕ) (base : Base) (start : World) (taken : List ℕ) (old new : Session) (w : World) (left : Option (List ℕ)) (faults : ℕ) (end : Disk) (written : Written) → Reading base start taken old w → length taken + room ≡ input_limit
     → Took [] w.left left → w.source_faults ≤ faults → ((xs : List ℕ) → w.left ≡ Some xs → xs ≡ []) → Closes old new (Ok tt) w.disk end written → written.before ≡ w.held → written.faults ≡ w.sink_faults
-    → Ends base start EndOfInput new.server (record { disk = end; left = left; held = written.after; source_faults = faults; sink_faults = written.faults_after })
+    → Ends base start EndOfInput new.server (world end left faults written.after written.faults_after)
 input_ended room base start taken old new w left faults end written r full took more none closes held sink =
     let so = closes.ok base taken r.spoken r.standing r.all_told refl in
     record {
@@ -79,9 +79,9 @@ input_ended room base start taken old new w left faults end written r full took 
 pub broken_ends : (base : Base) (start : World) (taken read played others : List ℕ) (old new : Session) (ending : Ending) (w : World) (left : Option (List ℕ)) (faults : ℕ) (end : Disk) (written : Written) → (r : Reading base start taken old w)
     → Took read start.left left → w.source_faults ≤ faults → Broken base played r.spoken ending new.server end written → read ++ 13 ∷ 10 ∷ [] ≡ played ++ others
     → written.before ≡ w.held → written.faults ≡ w.sink_faults → written.faults ≤ written.faults_after
-    → Ends base start ending new.server (record { disk = end; left = left; held = written.after; source_faults = faults; sink_faults = written.faults_after })
+    → Ends base start ending new.server (world end left faults written.after written.faults_after)
 broken_ends base start taken read played others old new ending w left faults end written r took more broken part held sink step =
-    ⊎_elim (λ sinks. subst (λ (e : Ending). Ends base start e new.server world) (sym sinks.0) (record {
+    ⊎_elim (λ sinks. subst (λ (e : Ending). Ends base start e new.server after) (sym sinks.0) (record {
       read = read;
       lines = broken.lines;
       replies = broken.replies;
@@ -92,7 +92,7 @@ broken_ends base start taken read played others old new ending w left faults end
       reason = let before = r.faults.sink in let rose = sinks.1 in omega (arith, before, rose, sink);
       faults = faults_on;
     }))
-    (λ memory. subst (λ (e : Ending). Ends base start e new.server world) (sym memory) (record {
+    (λ memory. subst (λ (e : Ending). Ends base start e new.server after) (sym memory) (record {
       read = read;
       lines = broken.lines;
       replies = broken.replies;
@@ -104,8 +104,8 @@ broken_ends base start taken read played others old new ending w left faults end
       faults = faults_on;
     })) broken.reason
   where
-    world : World
-    world = record { disk = end; left = left; held = written.after; source_faults = faults; sink_faults = written.faults_after }
+    after : World
+    after = world end left faults written.after written.faults_after
 
     first : AreFirst read broken.lines
     first = first_of read played others broken.lines broken.more broken.lines_are broken.spelt part
@@ -114,13 +114,13 @@ broken_ends base start taken read played others old new ending w left faults end
     told = subst (λ (l : List ℕ). PutFront l start.held written.after) (sym broken.texts)
         (fronts_more r.spoken broken.fresh start.held w.held written.after r.put (subst (λ (h : Option (List ℕ)). PutFront broken.fresh h written.after) held broken.put))
 
-    faults_on : FaultsGoOn start world
+    faults_on : FaultsGoOn start after
     faults_on = record { source = let before = r.faults.source in omega (arith, before, more); sink = let before = r.faults.sink in omega (arith, before, step, sink) }
 
 -- the piece was played
 pub reads_on : (base : Base) (start : World) (taken bytes : List ℕ) (old new : Session) (w : World) (left : Option (List ℕ)) (faults : ℕ) (end : Disk) (written : Written) → Reading base start taken old w
     → Took bytes w.left left → w.source_faults ≤ faults → PlaysBytes bytes old new (Ok tt) w.disk end written → written.before ≡ w.held → written.faults ≡ w.sink_faults
-    → Reading base start (taken ++ bytes) new (record { disk = end; left = left; held = written.after; source_faults = faults; sink_faults = written.faults_after })
+    → Reading base start (taken ++ bytes) new (world end left faults written.after written.faults_after)
 reads_on base start taken bytes old new w left faults end written r took more plays held sink =
     let so = plays.ok base taken r.spoken r.standing r.all_told refl in
     record {
@@ -136,7 +136,7 @@ reads_on base start taken bytes old new w left faults end written r took more pl
 pub too_long : (base : Base) (start : World) (taken bytes others : List ℕ) (old new : Session) (w : World) (left : Option (List ℕ)) (faults : ℕ) (end : Disk) (written : Written) → Reading base start taken old w
     → Took (bytes ++ others) w.left left → w.source_faults ≤ faults → PlaysBytes bytes old new (Ok tt) w.disk end written → written.before ≡ w.held → written.faults ≡ w.sink_faults
     → length taken + length bytes ≡ input_limit → 0 < length others
-    → Ends base start TooLong new.server (record { disk = end; left = left; held = written.after; source_faults = faults; sink_faults = written.faults_after })
+    → Ends base start TooLong new.server (world end left faults written.after written.faults_after)
 too_long base start taken bytes others old new w left faults end written r took more plays held sink full some =
     let so = plays.ok base taken r.spoken r.standing r.all_told refl in
     let n = so.1 in
@@ -190,7 +190,7 @@ part_of_read taken kept others = ap (λ (l : List ℕ). l ++ 13 ∷ 10 ∷ []) (
 -- it broke in the middle of a piece
 pub broken_piece : (base : Base) (start : World) (taken buf : List ℕ) (n kept : ℕ) (old new : Session) (ending : Ending) (w : World) (left : Option (List ℕ)) (faults : ℕ) (end : Disk) (written : Written) → (r : Reading base start taken old w)
     → kept ≤ n → Took (take n buf) w.left left → w.source_faults ≤ faults → PlaysBytes (take kept buf) old new (Err ending) w.disk end written → written.before ≡ w.held → written.faults ≡ w.sink_faults
-    → Ends base start ending new.server (record { disk = end; left = left; held = written.after; source_faults = faults; sink_faults = written.faults_after })
+    → Ends base start ending new.server (world end left faults written.after written.faults_after)
 broken_piece base start taken buf n kept old new ending w left faults end written r le took more plays held sink =
     broken_ends base start taken (taken ++ (take kept buf ++ drop kept (take n buf))) (taken ++ take kept buf) (drop kept (take n buf) ++ 13 ∷ 10 ∷ []) old new ending w left faults end written r
     (took_more taken (take kept buf ++ drop kept (take n buf)) start.left w.left left r.took (subst (λ (l : List ℕ). Took l w.left left) (first_bytes buf n kept le) took))
@@ -199,7 +199,7 @@ broken_piece base start taken buf n kept old new ending w left faults end writte
 -- it broke at the open line
 pub broken_close : (base : Base) (start : World) (taken : List ℕ) (old new : Session) (ending : Ending) (w : World) (left : Option (List ℕ)) (faults : ℕ) (end : Disk) (written : Written) → (r : Reading base start taken old w)
     → Took [] w.left left → w.source_faults ≤ faults → Closes old new (Err ending) w.disk end written → written.before ≡ w.held → written.faults ≡ w.sink_faults
-    → Ends base start ending new.server (record { disk = end; left = left; held = written.after; source_faults = faults; sink_faults = written.faults_after })
+    → Ends base start ending new.server (world end left faults written.after written.faults_after)
 broken_close base start taken old new ending w left faults end written r took more closes held sink =
     broken_ends base start taken taken (taken ++ 13 ∷ 10 ∷ []) [] old new ending w left faults end written r
     (subst (λ (l : List ℕ). Took l start.left left) (append-nil taken) (took_more taken [] start.left w.left left r.took took))
@@ -209,7 +209,7 @@ broken_close base start taken old new ending w left faults end written r took mo
 pub long_piece : (base : Base) (start : World) (taken buf : List ℕ) (n kept room : ℕ) (old new : Session) (w : World) (left : Option (List ℕ)) (faults : ℕ) (end : Disk) (written : Written) → Reading base start taken old w
     → kept < n → kept ≡ min n room → n ≤ length buf → Took (take n buf) w.left left → w.source_faults ≤ faults → PlaysBytes (take kept buf) old new (Ok tt) w.disk end written → written.before ≡ w.held → written.faults ≡ w.sink_faults
     → length taken + room ≡ input_limit
-    → Ends base start TooLong new.server (record { disk = end; left = left; held = written.after; source_faults = faults; sink_faults = written.faults_after })
+    → Ends base start TooLong new.server (world end left faults written.after written.faults_after)
 long_piece base start taken buf n kept room old new w left faults end written r lt is fits took more plays held sink full =
     let all = length-take-le n buf fits in
     let front = length-take-le kept buf (omega (arith, lt, fits)) in
@@ -220,6 +220,6 @@ long_piece base start taken buf n kept room old new w left faults end written r 
 -- the piece was played whole
 pub reads_piece : (base : Base) (start : World) (taken buf : List ℕ) (n kept : ℕ) (old new : Session) (w : World) (left : Option (List ℕ)) (faults : ℕ) (end : Disk) (written : Written) → Reading base start taken old w
     → kept ≡ n → Took (take n buf) w.left left → w.source_faults ≤ faults → PlaysBytes (take kept buf) old new (Ok tt) w.disk end written → written.before ≡ w.held → written.faults ≡ w.sink_faults
-    → Reading base start (taken ++ take n buf) new (record { disk = end; left = left; held = written.after; source_faults = faults; sink_faults = written.faults_after })
+    → Reading base start (taken ++ take n buf) new (world end left faults written.after written.faults_after)
 reads_piece base start taken buf n kept old new w left faults end written r same took more plays held sink =
     reads_on base start taken (take n buf) old new w left faults end written r took more (subst (λ (k : ℕ). PlaysBytes (take k buf) old new (Ok tt) w.disk end written) same plays) held sink

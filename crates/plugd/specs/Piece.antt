@@ -20,6 +20,10 @@ pub record Written : Type 0 where
   pub faults : ℕ
   pub faults_after : ℕ
 
+-- the sink as it tells itself: what it held and its faults, before and after
+abbrev pub wrote : Option (List ℕ) → ℕ → Option (List ℕ) → ℕ → Written
+wrote before faults after faults_after = record { before = before; after = after; faults = faults; faults_after = faults_after }
+
 -- a sink failed, or there was no memory: first lines of what was taken were played, and first texts were written
 pub record Broken (base : Base) (taken spoken : List ℕ) (ending : Ending) (server : Server) (disk : Disk) (w : Written) : Type 0 where
   pub lines : List (List ℕ)

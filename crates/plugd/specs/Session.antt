@@ -56,19 +56,23 @@ pub record World : Type 0 where
   pub source_faults : ℕ
   pub sink_faults : ℕ
 
+-- the outside as it tells itself: the disk; of the source what is left and its faults; of the sink what it holds and its faults
+abbrev pub world : Disk → Option (List ℕ) → ℕ → Option (List ℕ) → ℕ → World
+world disk left source_faults held sink_faults = record { disk = disk; left = left; held = held; source_faults = source_faults; sink_faults = sink_faults }
+
 -- the counts of faults of source and sink go on
 pub record FaultsGoOn (old new : World) : Type 0 where
   pub source : old.source_faults ≤ new.source_faults
   pub sink : old.sink_faults ≤ new.sink_faults
 
 -- a session that has read these bytes since the start, played them and written all replies
-pub record Reading (base : Base) (start : World) (taken : List ℕ) (session : Session) (world : World) : Type 0 where
+pub record Reading (base : Base) (start : World) (taken : List ℕ) (session : Session) (now : World) : Type 0 where
   pub spoken : List ℕ
-  pub standing : Standing base taken spoken session world.disk
+  pub standing : Standing base taken spoken session now.disk
   pub all_told : session.replies.items ≡ []
-  pub took : Took taken start.left world.left
-  pub put : Put spoken start.held world.held
-  pub faults : FaultsGoOn start world
+  pub took : Took taken start.left now.left
+  pub put : Put spoken start.held now.held
+  pub faults : FaultsGoOn start now
 
 -- which lines of the input were played, by how the run ended
 abbrev pub Played : Ending → List ℕ → List (List ℕ) → Type 0
@@ -95,21 +99,21 @@ HasReason TooLong old new = Unit {0}
 HasReason OutOfMemory old new = Unit {0}
 
 -- the end of the input, or of what could be played of it
-pub record Ends (base : Base) (start : World) (ending : Ending) (server : Server) (world : World) : Type 0 where
+pub record Ends (base : Base) (start : World) (ending : Ending) (server : Server) (end : World) : Type 0 where
   pub read : List ℕ
   pub lines : List (List ℕ)
   pub replies : List Reply
-  pub took : Took read start.left world.left
+  pub took : Took read start.left end.left
   pub played : Played ending read lines
-  pub halts : Halts base lines replies server world.disk
-  pub told : Told ending (flat_map text_of replies) start.held world.held
-  pub reason : HasReason ending start world
-  pub faults : FaultsGoOn start world
+  pub halts : Halts base lines replies server end.disk
+  pub told : Told ending (flat_map text_of replies) start.held end.held
+  pub reason : HasReason ending start end
+  pub faults : FaultsGoOn start end
 
 -- it reads on, and the input may have so many bytes more
 abbrev pub IsReading : Session → World → ℕ → Type 0
-IsReading session world room = (base : Base) × (start : World) × (taken : List ℕ) × Reading base start taken session world × (length taken + room ≡ input_limit)
+IsReading session now room = (base : Base) × (start : World) × (taken : List ℕ) × Reading base start taken session now × (length taken + room ≡ input_limit)
 
 -- it has read nothing yet
 abbrev pub IsFresh : Session → World → Type 0
-IsFresh session world = (base : Base) × (start : World) × Reading base start [] session world
+IsFresh session now = (base : Base) × (start : World) × Reading base start [] session now
