@@ -19,14 +19,18 @@ returns-in-Ok-close g c =
 pub returns-in-Err-close : goal.returns-in-Err-close
 returns-in-Err-close g c =
     let none : c.in-Ok.n ≡ 0 = c.if-n-eq0.true in
+    let size : c.min-size.result ≤ length c.args.buf.now = omega (arith, c.min-size.ensures) in
+    let some : 0 < length (take c.min-size.result c.args.buf.now) = omega (arith, length-take-le c.min-size.result c.args.buf.now size, c.min-size.ensures, c.requires.piece) in
     piece_err c.args.room _ _ _ _ _ (λ base start taken r full.
-    broken_close base start taken _ _ _ _ _ _ _ _ r (nothing_read _ c.in-Ok.n _ _ none c.in-Ok.ensures.took) c.in-Ok.ensures.counts.no_fewer c.in-Err-close.ensures refl refl)
+    broken_close c.args.room base start taken _ _ _ _ _ _ _ _ r full (nothing_read _ c.in-Ok.n _ _ none c.in-Ok.ensures.took) c.in-Ok.ensures.counts.no_fewer
+    (λ xs is. c.in-Ok.ensures.ended none some xs is) c.in-Err-close.ensures refl refl)
 
 pub returns-in-Err-play_bytes : goal.returns-in-Err-play_bytes
 returns-in-Err-play_bytes g c =
     let less : c.min-kept.result ≤ c.in-Ok.n = omega (arith, c.min-kept.ensures) in
+    let fits : c.min-kept.result ≤ c.args.room = omega (arith, c.min-kept.ensures) in
     piece_err c.args.room _ _ _ _ _ (λ base start taken r full.
-    broken_piece base start taken c.read.new.buf c.in-Ok.n c.min-kept.result _ _ _ _ _ _ _ _ r less c.in-Ok.ensures.took c.in-Ok.ensures.counts.no_fewer
+    broken_piece c.args.room base start taken c.read.new.buf c.in-Ok.n c.min-kept.result _ _ _ _ _ _ _ _ r full fits less c.in-Ok.ensures.took c.in-Ok.ensures.counts.no_fewer
     c.in-Err-play_bytes.ensures refl refl)
 
 pub returns-then-kept-n : goal.returns-then-kept-n
