@@ -31,4 +31,4 @@ pub use read::{Found, transaction_at};
 pub use text::Text;
 pub use transaction::{Change, Transaction};
 pub use visit::Visit;
-pub use write::{put_transaction, transaction_len};
+pub use write::{LEN_WITHOUT_TEXT, put_transaction, transaction_len};

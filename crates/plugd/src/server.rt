@@ -15,7 +15,7 @@ use crate::command::{Command, command_of};
 use crate::log_one::log_one;
 use crate::reply::Reply;
 use crate::xids::XidSet;
-use binlog_file::{Binlog, Change, Text, Transaction, put_transaction};
+use binlog_file::{Binlog, Change, LEN_WITHOUT_TEXT, Text, Transaction, put_transaction};
 use disk_model::Storage;
 use std::alloc::{AllocError, Global};
 
@@ -74,7 +74,7 @@ impl Server {
         requires log { IsOpen self.old.log (disk volume.old) }
         ensures { Commits key text self.old self.new result (disk volume.old) (disk volume.new) }
     {
-        let size = 124 + text.as_bytes().len() as u32;
+        let size = LEN_WITHOUT_TEXT + text.as_bytes().len() as u32;
         if size > self.log.room(self.limit) {
             return Ok(Reply::LogSpent);
         }
