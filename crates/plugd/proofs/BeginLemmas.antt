@@ -95,7 +95,7 @@ serving limit session start end found small new goes told = record {
     safe = λ yes. ([], (told yes).0);
   };
   shows = record { line = new.lines; serves = λ is. refl; halts = λ is none. let no = new.halted in cc; count = λ none. refl; len = λ none. refl };
-  rest = λ yes none. ([], (told yes).0, (told yes).1);
+  rest = λ yes none. (told yes).1;
 }
 
 by_told : (b : Bool) (P : Type 0) → (b ≡ true → P) → (b ≡ false → P) → P

@@ -6,7 +6,7 @@ use Rattle.disk_model.specs.Disk.{Disk, now, Keeps, Only}
 use Rattle.binlog_file.specs.declared.transaction.Change.TheVariants as change
 use Rattle.binlog_file.specs.declared.transaction.Transaction.{Transaction}
 use Rattle.binlog_file.specs.Logged.{Holds}
-use Rattle.binlog_file.specs.Binlog.{flushed_of, end_in, Carries}
+use Rattle.binlog_file.specs.Binlog.{flushed_of, end_in}
 use Rattle.plugd.specs.declared.reply.Reply.{Reply}
 use Rattle.plugd.specs.declared.reply.Reply.TheVariants.{Done, LogSpent, Halted, BadLine}
 use Rattle.plugd.specs.declared.server.Server.{Server}

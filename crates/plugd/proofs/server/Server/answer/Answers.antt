@@ -12,7 +12,7 @@ use Rattle.plugd.specs.Command.{IsCommand}
 use Rattle.plugd.specs.Commit.{Commits}
 use Rattle.plugd.specs.Play.{settles}
 use Rattle.plugd.proofs.CommandLemmas.{command_of_front}
-use Rattle.plugd.proofs.ServeLemmas.{counted, idle, bad_line, halted_line, inserted, answers_err}
+use Rattle.plugd.proofs.ServeLemmas.{open_of, counted, idle, bad_line, halted_line, inserted, answers_err}
 use Rattle.plugd.proofs.server.Server.answer.Goals as goal
 
 -- what the front of a line asks for, the line does
@@ -27,6 +27,9 @@ committed : (key : ℤ) (text : List ℕ) (old new : Server) (result : Result Re
     → Commits (to_z w64 (of_z w64 key)) text old new result start end → Commits key text old new (Ok reply) start end
 committed key text old new result reply start end fits is commits =
     subst (λ (k : ℤ). Commits k text old new (Ok reply) start end) (to_z-of_z w64 key fits) (subst (λ (r : Result Reply AllocError). Commits (to_z w64 (of_z w64 key)) text old new r start end) is commits)
+
+pub commit-requires-clause-log : goal.commit-requires-clause-log
+commit-requires-clause-log g c = open_of c.args.self.now _ c.requires.serving c.if-self.false
 
 pub returns-then-self : goal.returns-then-self
 returns-then-self g c = record {
