@@ -85,7 +85,7 @@ fn play_piece<S: Source, K: Sink>(
         (world (disk volume.old) (S.left source.old) (S.source_faults source.old)
         (K.held sink.old) (K.sink_faults sink.old)) room }
     requires piece { 0 < length buf.old }
-    ensures { PlaysPiece room session.old session.new result
+    ensures plays { PlaysPiece room session.old session.new result
         (world (disk volume.old) (S.left source.old) (S.source_faults source.old)
         (K.held sink.old) (K.sink_faults sink.old))
         (world (disk volume.new) (S.left source.new) (S.source_faults source.new)
@@ -125,7 +125,7 @@ pub(crate) fn play_all<S: Source, K: Sink>(
         (world (disk volume.old) (S.left source.old) (S.source_faults source.old)
         (K.held sink.old) (K.sink_faults sink.old)) }
     requires piece { 0 < length buf.old }
-    ensures { PlaysAll session.old session.new result
+    ensures plays { PlaysAll session.old session.new result
         (world (disk volume.old) (S.left source.old) (S.source_faults source.old)
         (K.held sink.old) (K.sink_faults sink.old))
         (world (disk volume.new) (S.left source.new) (S.source_faults source.new)

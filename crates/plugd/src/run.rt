@@ -146,7 +146,8 @@ pub(crate) fn run_over<S: Source, K: Sink>(
 }
 
 /// Runs the server over a volume: the one word `play` opens the log in file 0 and plays the lines of the input. Each reply is written
-/// before more is read. The volume comes back as the run left it.
+/// before more is read. The volume comes back as the run left it. Where nothing failed, it is Ok or found no memory (`complete`). A crash
+/// at any moment leaves a volume that can be opened, where there was one (`recoverable`).
 pub fn run<S: Source, K: Sink>(
     alloc: Global,
     words: &[String],
@@ -161,7 +162,6 @@ pub fn run<S: Source, K: Sink>(
         (world (disk (object (result.1).storage)) (S.left source.new) (S.source_faults source.new)
         (K.held sink.new) (K.sink_faults sink.new)) }
 
-    // Where nothing failed, it is Ok or found no memory.
     ensures complete { IsComplete words.now
         (world (disk (object volume.storage)) (S.left source.old) (S.source_faults source.old)
         (K.held sink.old) (K.sink_faults sink.old))
@@ -169,7 +169,6 @@ pub fn run<S: Source, K: Sink>(
         (K.held sink.new) (K.sink_faults sink.new))
         (result.0).status }
 
-    // A crash at any moment leaves a volume that can be opened, where there was one.
     ensures recoverable { StaysRecoverable (disk (object volume.storage))
         (disk (object (result.1).storage)) }
 {

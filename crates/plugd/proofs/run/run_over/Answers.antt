@@ -20,4 +20,4 @@ returns g c =
     let asks : IsPlay c.args.words.now = search rules in
     let so = c.in-Ok.ensures.ok c.in-Ok.session refl in
     let start : World = world ((goal.Storage-dyn g c.args.volume.now).disk c.args.volume.now.1) (g.S.Source.left c.args.source.now) (g.S.Source.source_faults c.args.source.now) (g.K.Sink.held c.args.sink.now) (g.K.Sink.sink_faults c.args.sink.now) in
-    played asks so.0 so.1 c.play_all-ending.result _ (c.play_all-ending.ensures.ends so.0 start (fresh so.0 start _ c.in-Ok.session so.2 so.3 so.4)) (search rules) c.status_of.ensures
+    played asks so.0 so.1 c.play_all-ending.result _ (c.play_all-ending.ensures.plays.ends so.0 start (fresh so.0 start _ c.in-Ok.session so.2 so.3 so.4)) (search rules) c.status_of.ensures

@@ -33,36 +33,46 @@ commit-requires-clause-log g c = open_of c.args.self.now _ c.requires.serving c.
 
 pub returns-then-self : goal.returns-then-self
 returns-then-self g c = record {
-  ok = λ base lines replies line part s. halted_line base lines replies c.args.self.now _ s line c.in-Insert.key c.in-Insert.text
-      (asks c.args.front.now line c.in_ok-command.command (Insert c.in-Insert.key c.in-Insert.text) c.in_ok-command.ensures c.in-Insert.is part) c.if-self.true;
-  err = λ base lines replies s. tt;
+  answers = record {
+    ok = λ base lines replies line part s. halted_line base lines replies c.args.self.now _ s line c.in-Insert.key c.in-Insert.text
+        (asks c.args.front.now line c.in_ok-command.command (Insert c.in-Insert.key c.in-Insert.text) c.in_ok-command.ensures c.in-Insert.is part) c.if-self.true;
+    err = λ base lines replies s. tt;
+  };
 }
 
 pub returns-in-Settle : goal.returns-in-Settle
 returns-in-Settle g c = record {
-  ok = λ base lines replies line part s. idle base lines replies c.args.self.now _ s line []
-      (settles (asks c.args.front.now line c.in_ok-command.command Settle c.in_ok-command.ensures c.in-Settle.is part) refl refl) refl;
-  err = λ base lines replies s. tt;
+  answers = record {
+    ok = λ base lines replies line part s. idle base lines replies c.args.self.now _ s line []
+        (settles (asks c.args.front.now line c.in_ok-command.command Settle c.in_ok-command.ensures c.in-Settle.is part) refl refl) refl;
+    err = λ base lines replies s. tt;
+  };
 }
 
 pub returns-in-Bad : goal.returns-in-Bad
 returns-in-Bad g c = record {
-  ok = λ base lines replies line part s. bad_line base lines replies c.args.self.now _ s line
-      (asks c.args.front.now line c.in_ok-command.command Bad c.in_ok-command.ensures c.in-Bad.is part);
-  err = λ base lines replies s. tt;
+  answers = record {
+    ok = λ base lines replies line part s. bad_line base lines replies c.args.self.now _ s line
+        (asks c.args.front.now line c.in_ok-command.command Bad c.in_ok-command.ensures c.in-Bad.is part);
+    err = λ base lines replies s. tt;
+  };
 }
 
 pub returns-in_ok-reply-in-Insert : goal.returns-in_ok-reply-in-Insert
 returns-in_ok-reply-in-Insert g c = record {
-  ok = λ base lines replies line part s. inserted base lines replies c.args.self.now c.commit.new.self _ _ s line c.in-Insert.key c.in-Insert.text c.in_ok-reply-in-Insert.reply
-      (asks c.args.front.now line c.in_ok-command.command (Insert c.in-Insert.key c.in-Insert.text) c.in_ok-command.ensures c.in-Insert.is part) c.if-self.false
-      (committed c.in-Insert.key c.in-Insert.text (counted c.args.self.now) c.commit.new.self c.commit.result c.in_ok-reply-in-Insert.reply _ _ (key_fits c.args.front.now c.in_ok-command.command c.in-Insert.key c.in-Insert.text c.in_ok-command.ensures c.in-Insert.is)
-      c.in_ok-reply-in-Insert.was c.commit.ensures);
-  err = λ base lines replies s. tt;
+  answers = record {
+    ok = λ base lines replies line part s. inserted base lines replies c.args.self.now c.commit.new.self _ _ s line c.in-Insert.key c.in-Insert.text c.in_ok-reply-in-Insert.reply
+        (asks c.args.front.now line c.in_ok-command.command (Insert c.in-Insert.key c.in-Insert.text) c.in_ok-command.ensures c.in-Insert.is part) c.if-self.false
+        (committed c.in-Insert.key c.in-Insert.text (counted c.args.self.now) c.commit.new.self c.commit.result c.in_ok-reply-in-Insert.reply _ _ (key_fits c.args.front.now c.in_ok-command.command c.in-Insert.key c.in-Insert.text c.in_ok-command.ensures c.in-Insert.is)
+        c.in_ok-reply-in-Insert.was c.commit.ensures.commits);
+    err = λ base lines replies s. tt;
+  };
 }
 
 pub returns-in_err-command : goal.returns-in_err-command
-returns-in_err-command g c = answers_err c.args.front.now c.args.self.now _ _ _ _ (search rules) refl refl refl
+returns-in_err-command g c =
+    record { answers = answers_err c.args.front.now c.args.self.now _ _ _ _ (search rules) refl refl refl }
 
 pub returns-in_err-reply-in-Insert : goal.returns-in_err-reply-in-Insert
-returns-in_err-reply-in-Insert g c = answers_err c.args.front.now c.args.self.now _ _ _ _ (search rules) c.in_err-reply-in-Insert.ensures.memory.0 c.in_err-reply-in-Insert.ensures.memory.1 c.in_err-reply-in-Insert.ensures.memory.2
+returns-in_err-reply-in-Insert g c =
+    record { answers = answers_err c.args.front.now c.args.self.now _ _ _ _ (search rules) c.in_err-reply-in-Insert.ensures.commits.memory.0 c.in_err-reply-in-Insert.ensures.commits.memory.1 c.in_err-reply-in-Insert.ensures.commits.memory.2 }
