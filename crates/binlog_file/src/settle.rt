@@ -53,7 +53,7 @@ pub(crate) fn cut_behind(volume: &mut dyn Storage, len: u64) -> Result<(), Faile
 pub(crate) fn finish(volume: &mut dyn Storage, len: u64, size: u64) -> Result<(), Failed>
     requires within { IsTrue (disk volume.old).told → len ≤ length (contents (disk volume.old) 0) }
     requires size { IsTrue (disk volume.old).told → size ≡ length (contents (disk volume.old) 0) }
-    ensures { Changes 0 (CutTo len) result (disk volume.old) (disk volume.new) }
+    ensures changes { Changes 0 (CutTo len) result (disk volume.old) (disk volume.new) }
 {
     if len < size {
         cut_behind(volume, len)

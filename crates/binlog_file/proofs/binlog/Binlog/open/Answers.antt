@@ -29,16 +29,16 @@ pub returns-in_err-finish-clause-any_moment : goal.returns-in_err-finish-clause-
 returns-in_err-finish-clause-any_moment g c =
     let saw = seen _ _ _ _ _ (looks_more 0 _ _ _ _ (looks_none _) c.len.ensures.0) c.in_ok-size.ensures.1 c.has_header.ensures.looks c.in_ok-headed.ensures.value in
     let read = was_read _ _ _ _ _ _ _ _ saw c.if-not-headed.false c.read_all.ensures.looks c.in_ok-scan.ensures.walked in
-    cut_moments _ _ _ _ _ _ _ _ _ read c.from-len.ensures c.in_err-finish.ensures
+    cut_moments _ _ _ _ _ _ _ _ _ read c.from-len.ensures c.in_err-finish.ensures.changes
 
 pub returns-clause-opened : goal.returns-clause-opened
 returns-clause-opened g c =
     let saw = seen _ _ _ _ _ (looks_more 0 _ _ _ _ (looks_none _) c.len.ensures.0) c.in_ok-size.ensures.1 c.has_header.ensures.looks c.in_ok-headed.ensures.value in
     let read = was_read _ _ _ _ _ _ _ _ saw c.if-not-headed.false c.read_all.ensures.looks c.in_ok-scan.ensures.walked in
-    log_opens _ _ _ _ _ _ _ _ _ _ _ read c.from-len.ensures c.in_ok-finish.ensures refl refl refl refl c.saturating_sub.ensures
+    log_opens _ _ _ _ _ _ _ _ _ _ _ read c.from-len.ensures c.in_ok-finish.ensures.changes refl refl refl refl c.saturating_sub.ensures
 
 pub returns-clause-any_moment : goal.returns-clause-any_moment
 returns-clause-any_moment g c =
     let saw = seen _ _ _ _ _ (looks_more 0 _ _ _ _ (looks_none _) c.len.ensures.0) c.in_ok-size.ensures.1 c.has_header.ensures.looks c.in_ok-headed.ensures.value in
     let read = was_read _ _ _ _ _ _ _ _ saw c.if-not-headed.false c.read_all.ensures.looks c.in_ok-scan.ensures.walked in
-    cut_moments _ _ _ _ _ _ _ _ _ read c.from-len.ensures c.in_ok-finish.ensures
+    cut_moments _ _ _ _ _ _ _ _ _ read c.from-len.ensures c.in_ok-finish.ensures.changes
