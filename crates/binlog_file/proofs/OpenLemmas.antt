@@ -1,12 +1,17 @@
 -- The exits of an opening, and what a crash leaves at each moment of it.
-use Rattle.std.proofs.Common.{◌≡◌, inl, inr, ⊎_elim, ℕ, zero, suc, ◌+◌, ◌-◌, ◌<◌, ◌≤◌, Bool, true, false, List, [], ◌∷◌, ◌++◌, length, take, drop, get_or, Result, Ok, IsTrue, refl, sym, ◌∙◌, ap, subst, arith, append_assoc, length-append, take-append-drop}
-use Rattle.std.proofs.lemmas.List.{append-nil, take_at, take_all, drop_all, ext_get_or, get_or-take, length-take-le}
+use Rattle.std.proofs.Common.{◌≡◌, inl, inr, ⊎_elim, ℕ, zero, suc, ◌+◌, ◌-◌, ◌<◌, ◌≤◌, Bool, true, false, List, [], ◌∷◌, ◌++◌, length, take, drop, Result, Ok, IsTrue, refl, sym, ◌∙◌, ap, subst, arith, append_assoc, length-append, take-append-drop}
+use Rattle.std.proofs.lemmas.List.{append-nil, take_at, take_all, drop_all}
 use Rattle.fault_counts.specs.Rose.{Rose}
 use Rattle.disk_model.specs.declared.storage.Failed.{Failed}
-use Rattle.disk_model.specs.File.{File, Step, Wrote, CutTo, written, least, greatest, IsWritten, IsImage, IsSettled}
+use Rattle.disk_model.specs.File.{File, Step, Wrote, CutTo, written, greatest}
 use Rattle.disk_model.specs.Disk.{Disk, now, contents, Keeps, Only, HasCause}
 use Rattle.disk_model.specs.Grew.{OnlyGrew}
+use Rattle.disk_model.specs.Looking.{IsUntouched, LooksOnly}
+use Rattle.disk_model.specs.Start.{settled}
+use Rattle.disk_model.specs.Staged.{IsChanging, as_was, synced, stepping, changed, IsOnWay, Changes}
 use Rattle.disk_model.proofs.Moments.{both, weaker}
+use Rattle.disk_model.proofs.LookingLemmas.{looked, looked_contents, looks_both}
+use Rattle.disk_model.proofs.StagedLemmas.{settled_image, is_settled, rose_on, cut_short}
 use Rattle.disk_model.proofs.Grew.{grew_none}
 use Rattle.frame_codec.specs.Chain.{chain_of}
 use Rattle.frame_codec.proofs.ChainLemmas.{chain_of-nil, length-chain_of}
@@ -19,33 +24,17 @@ use Rattle.binlog_file.specs.Transaction.{events_of}
 use Rattle.binlog_file.specs.Logged.{header_checksum, log_header, all_events, log_end, log_checksum, log_of, Headed, Headless, IsLogged, IsNoLog, Holds}
 use Rattle.binlog_file.specs.Binlog.{IsLog}
 use Rattle.binlog_file.specs.Found.{NoTransactionAt}
-use Rattle.binlog_file.specs.Staged.{settled_at, IsChanging, as_was, synced, stepping, changed, IsOnWay, Changes}
-use Rattle.binlog_file.specs.Opening.{IsUntouched, LooksOnly, Reached, Walked, IsSafe, OpensFor}
+use Rattle.binlog_file.specs.Opening.{Reached, Walked, IsSafe, OpensFor}
 use Rattle.binlog_file.proofs.TransactionLemmas.{length-events_of}
 use Rattle.binlog_file.proofs.LoggedLemmas.{length-log_header}
 use Rattle.binlog_file.proofs.CallLemmas.{length-log_of}
-use Rattle.binlog_file.proofs.WalkLemmas.{looked}
-use Rattle.binlog_file.proofs.StagedLemmas.{rose_on}
 
 -- What a crash leaves of a file that is cut, or gets its header.
 
--- nothing was written since the sync, and no more than that stands there: an image is a first part
-first_part : (file : File) (bytes image : List ℕ) → file.synced ≡ bytes → ((i : ℕ) → IsWritten file.steps i → ⊥) → greatest file.synced file.steps ≤ length bytes → IsImage file image → image ≡ take (length image) bytes
-first_part file bytes image at none top is =
-    let short : length image ≤ length bytes = omega (arith, is.no_longer, top) in
-    ext_get_or 0 image (take (length image) bytes) (sym (length-take-le (length image) bytes short))
-    (λ i lt. is.kept i lt (omega (arith, ap length at, short)) (none i) ∙ ap (λ (l : List ℕ). get_or l i 0) at ∙ sym (get_or-take (length image) bytes i 0 lt))
-
-settled_image : (file : File) (bytes image : List ℕ) → file ≡ settled_at bytes → IsImage file image → image ≡ bytes
-settled_image file bytes image settled is =
-    let at = subst (λ (f : File). IsImage f image) settled is in
-    let size : length image ≡ length bytes = omega (arith, at.no_shorter, at.no_longer) in
-    first_part (settled_at bytes) bytes image refl (λ i written. written) (omega arith) at ∙ take_all (length image) bytes (omega (arith, size))
-
-pub settled_holds : (file : File) (bytes : List ℕ) (list : List Transaction) → file ≡ settled_at bytes → IsLogged bytes list → Holds list list file
-settled_holds file bytes list settled logged image is faithful = record {
+pub settled_holds : (file : File) (bytes : List ℕ) (list : List Transaction) → file ≡ settled bytes → IsLogged bytes list → Holds list list file
+settled_holds file bytes list is_at logged image is faithful = record {
   list = list;
-  logged = subst (λ (l : List ℕ). IsLogged l list) (sym (settled_image file bytes image settled is)) logged;
+  logged = subst (λ (l : List ℕ). IsLogged l list) (sym (settled_image file bytes image is_at is)) logged;
   at_least = prefix_refl list;
   at_most = prefix_refl list;
 }
@@ -76,14 +65,11 @@ part_headed bytes list n headed long = record {
 
 cutting_holds : (file was : File) (list : List Transaction) (len : ℕ) → Headed was.bytes list → len ≡ log_end list → file.synced ≡ was.bytes → file.steps ≡ CutTo len ∷ [] → Holds list list file
 cutting_holds file was list len headed len_is at steps image is faithful =
-    let part = first_part file was.bytes image at
-    (λ i written. subst (λ (s : List Step). IsWritten s i) steps written)
-    (omega (arith, ap (λ (s : List Step). greatest file.synced s) steps, ap length at)) is in
     let room : log_end list ≤ length was.bytes = omega (arith, ap length headed.stands, length-append (log_of list) headed.rest, length-log_of list) in
-    let long : log_end list ≤ length image = omega (arith, is.no_shorter, ap (λ (s : List Step). least file.synced s) steps, ap length at, len_is, room) in
+    let part = cut_short file was.bytes image len at steps (omega (arith, room, len_is)) is in
     record {
       list = list;
-      logged = inl (subst (λ (l : List ℕ). Headed l list) (sym part) (part_headed was.bytes list (length image) headed long));
+      logged = inl (subst (λ (l : List ℕ). Headed l list) (sym part.0) (part_headed was.bytes list (length image) headed (omega (arith, part.1, len_is))));
       at_least = prefix_refl list;
       at_most = prefix_refl list;
     }
@@ -142,30 +128,18 @@ header_safe was file headless (changed is) =
 
 -- Runs of calls.
 
-pub looks_then : (a b c : Disk) → LooksOnly a b → LooksOnly b c → LooksOnly a c
-looks_then a b c first second = record {
-  told = second.told ∙ first.told;
-  later = omega (arith, first.later, second.later);
-  no_fewer = omega (arith, first.no_fewer, second.no_fewer);
-  moments = λ told. both a b c (IsUntouched a) (first.moments told)
-      (weaker b c (IsUntouched b) (IsUntouched a) (λ files p f. p f ∙ looked a b first told f) (second.moments (subst IsTrue (sym first.told) told)));
-}
-
 abbrev Run : Disk → Disk → Type 0
 Run a c = Keeps a c (Only 0 (now a) (IsSafe (now a 0)))
 
 pub looks_safe : (a b : Disk) → LooksOnly a b → IsTrue a.told → Run a b
 looks_safe a b looks told = weaker a b (IsUntouched a) (Only 0 (now a) (IsSafe (now a 0))) (λ files p. (λ f not. p f, inl (p 0))) (looks.moments told)
 
-pub changes_safe : (step : Step) (a b c : Disk) → LooksOnly a b → IsOnWay step b c → IsTrue a.told → ((file : File) → IsChanging step (now a 0) file → IsSafe (now a 0) file) → Run a c
+pub changes_safe : (step : Step) (a b c : Disk) → LooksOnly a b → IsOnWay 0 step b c → IsTrue a.told → ((file : File) → IsChanging step (now a 0) file → IsSafe (now a 0) file) → Run a c
 changes_safe step a b c looks way told safe =
     both a b c (Only 0 (now a) (IsSafe (now a 0))) (looks_safe a b looks told)
     (weaker b c (Only 0 (now b) (IsChanging step (now b 0))) (Only 0 (now a) (IsSafe (now a 0)))
     (λ files p. (λ f not. p.0 f not ∙ looked a b looks told f, safe (files 0) (subst (λ (was : File). IsChanging step was (files 0)) (looked a b looks told 0) p.1)))
     (way.moments (subst IsTrue (sym looks.told) told)))
-
-same_contents : (a b : Disk) → LooksOnly a b → IsTrue a.told → contents b 0 ≡ contents a 0
-same_contents a b looks told = ap (λ (f : File). f.bytes) (looked a b looks told 0)
 
 -- what the calls before the change have told
 pub record Seen (a b : Disk) (size : ℕ) (headed : Bool) : Type 0 where
@@ -177,11 +151,11 @@ pub record Seen (a b : Disk) (size : ℕ) (headed : Bool) : Type 0 where
 pub seen : (a b c : Disk) (size : ℕ) (headed : Bool) → LooksOnly a b → (IsTrue a.told → size ≡ length (contents a 0)) → LooksOnly b c
     → (IsTrue b.told → (IsTrue headed → IsPrefix log_header (contents b 0)) × (IsPrefix log_header (contents b 0) → IsTrue headed)) → Seen a c size headed
 seen a b c size headed first size_is second value = record {
-  looks = looks_then a b c first second;
+  looks = looks_both a b c first second;
   sized = size_is;
-  yes = λ told is. subst (λ (l : List ℕ). IsPrefix log_header l) (same_contents a b first told) ((value (subst IsTrue (sym first.told) told)).0 is);
+  yes = λ told is. subst (λ (l : List ℕ). IsPrefix log_header l) (looked_contents a b 0 first told) ((value (subst IsTrue (sym first.told) told)).0 is);
   no_ = λ told is at.
-      let yes = (value (subst IsTrue (sym first.told) told)).1 (subst (λ (l : List ℕ). IsPrefix log_header l) (sym (same_contents a b first told)) at) in
+      let yes = (value (subst IsTrue (sym first.told) told)).1 (subst (λ (l : List ℕ). IsPrefix log_header l) (sym (looked_contents a b 0 first told)) at) in
       cc;
 }
 
@@ -191,35 +165,32 @@ no_log a b size headed saw is long told = record { no_header = saw.no_ told is; 
 headless_of : (a b : Disk) (size : ℕ) (headed : Bool) → Seen a b size headed → headed ≡ false → size ≤ 32 → IsTrue a.told → Headless (contents a 0) []
 headless_of a b size headed saw is short told = record { no_header = saw.no_ told is; short = omega (arith, saw.sized told, short); none = refl }
 
-pub header_moments : (a b c : Disk) (size : ℕ) (headed : Bool) (result : Result Unit Failed) → Seen a b size headed → headed ≡ false → size ≤ 32 → Changes (Wrote 0 log_header) result b c → IsTrue a.told → Run a c
+pub header_moments : (a b c : Disk) (size : ℕ) (headed : Bool) (result : Result Unit Failed) → Seen a b size headed → headed ≡ false → size ≤ 32 → Changes 0 (Wrote 0 log_header) result b c → IsTrue a.told → Run a c
 header_moments a b c size headed result saw is short changes told =
     changes_safe (Wrote 0 log_header) a b c saw.looks changes.way told (λ file changing. header_safe (now a 0) file (headless_of a b size headed saw is short told) changing)
 
-settled_log : (log : Binlog) (list : List Transaction) (file : File) → file ≡ settled_at (log_of list) → (scan : Scan) → Reached scan list → log.flushed ≡ scan.count → log.durable ≡ scan.count → log.len ≡ scan.len → log.crc ≡ scan.crc → IsLog log list file
-settled_log log list file settled scan reached flushed durable len crc = record {
+settled_log : (log : Binlog) (list : List Transaction) (file : File) → file ≡ settled (log_of list) → (scan : Scan) → Reached scan list → log.flushed ≡ scan.count → log.durable ≡ scan.count → log.len ≡ scan.len → log.crc ≡ scan.crc → IsLog log list file
+settled_log log list file is_at scan reached flushed durable len crc = record {
   fit = reached.fit;
   ends = reached.ends;
-  bytes = ap (λ (f : File). f.bytes) settled;
+  bytes = ap (λ (f : File). f.bytes) is_at;
   flushed = flushed ∙ reached.count;
   durable = omega (arith, durable, reached.count);
-  synced = ap (λ (f : File). f.synced) settled ∙ ap log_of (sym (take_all log.durable list (omega (arith, durable, reached.count))));
-  grew = subst (λ (f : File). OnlyGrew f.synced f.steps f.bytes) (sym settled) (grew_none (log_of list));
+  synced = ap (λ (f : File). f.synced) is_at ∙ ap log_of (sym (take_all log.durable list (omega (arith, durable, reached.count))));
+  grew = subst (λ (f : File). OnlyGrew f.synced f.steps f.bytes) (sym is_at) (grew_none (log_of list));
   len = len ∙ reached.len;
   crc = crc ∙ reached.crc;
 }
 
-is_settled : (file : File) (bytes : List ℕ) → file ≡ settled_at bytes → IsSettled file
-is_settled file bytes settled = record { synced = ap (λ (f : File). f.synced) settled ∙ sym (ap (λ (f : File). f.bytes) settled); steps = ap (λ (f : File). f.steps) settled }
-
 -- an empty log was made
 pub header_opens : (before : List Transaction → Type 0) (a b c : Disk) (size : ℕ) (headed : Bool) (v : Unit) (log : Binlog) → Seen a b size headed → headed ≡ false → size ≤ 32
-    → Changes (Wrote 0 log_header) (Ok v) b c → log.flushed ≡ 0 → log.durable ≡ 0 → log.len ≡ 32 → log.crc ≡ header_checksum → IsTrue a.told → OpensFor before before a c log size
+    → Changes 0 (Wrote 0 log_header) (Ok v) b c → log.flushed ≡ 0 → log.durable ≡ 0 → log.len ≡ 32 → log.crc ≡ header_checksum → IsTrue a.told → OpensFor before before a c log size
 header_opens before a b c size headed v log saw is short changes flushed durable len crc told =
     let headless = headless_of a b size headed saw is short told in
-    let after : now c 0 ≡ settled_at (written 0 log_header (contents b 0)) = changes.ok (subst IsTrue (sym (saw.looks).told) told) in
-    let same = same_contents a b saw.looks told in
-    let settled : now c 0 ≡ settled_at (log_of []) =
-    after ∙ ap (λ (l : List ℕ). settled_at (written 0 log_header l)) same ∙ ap (λ (l : List ℕ). settled_at l) (header_bytes_are (contents a 0) headless.short) in
+    let after : now c 0 ≡ settled (written 0 log_header (contents b 0)) = changes.ok (subst IsTrue (sym (saw.looks).told) told) in
+    let same = looked_contents a b 0 saw.looks told in
+    let is_at : now c 0 ≡ settled (log_of []) =
+    after ∙ ap (λ (l : List ℕ). settled (written 0 log_header l)) same ∙ ap (λ (l : List ℕ). settled l) (header_bytes_are (contents a 0) headless.short) in
     record {
       list = [];
       opens = record {
@@ -227,15 +198,15 @@ header_opens before a b c size headed v log saw is short changes flushed durable
         is_log = record {
           fit = tt;
           ends = omega arith;
-          bytes = ap (λ (f : File). f.bytes) settled;
+          bytes = ap (λ (f : File). f.bytes) is_at;
           flushed = flushed;
           durable = omega (arith, durable);
-          synced = ap (λ (f : File). f.synced) settled ∙ ap log_of (sym (take_all log.durable [] (omega arith)));
-          grew = subst (λ (f : File). OnlyGrew f.synced f.steps f.bytes) (sym settled) (grew_none (log_of []));
+          synced = ap (λ (f : File). f.synced) is_at ∙ ap log_of (sym (take_all log.durable [] (omega arith)));
+          grew = subst (λ (f : File). OnlyGrew f.synced f.steps f.bytes) (sym is_at) (grew_none (log_of []));
           len = len;
           crc = crc;
         };
-        settled = is_settled (now c 0) (log_of []) settled;
+        settled = is_settled (now c 0) (log_of []) is_at;
         durable = durable ∙ sym flushed;
         headed = λ at. absurd (headless.no_header (at.rest, at.stands ∙ ap (λ (l : List ℕ). l ++ at.rest) log_of-nil));
         headless = λ none. saw.sized told;
@@ -246,7 +217,7 @@ header_opens before a b c size headed v log saw is short changes flushed durable
 -- a log was read
 
 walked_at : (before after : List Transaction → Type 0) (a b : Disk) (scan : Scan) → LooksOnly a b → IsTrue a.told → Walked before after (contents b 0) scan → Walked before after (contents a 0) scan
-walked_at before after a b scan looks told walked = subst (λ (l : List ℕ). Walked before after l scan) (same_contents a b looks told) walked
+walked_at before after a b scan looks told walked = subst (λ (l : List ℕ). Walked before after l scan) (looked_contents a b 0 looks told) walked
 
 pub record Read (before after : List Transaction → Type 0) (a c : Disk) (size : ℕ) (scan : Scan) : Type 0 where
   pub looks : LooksOnly a c
@@ -256,45 +227,45 @@ pub record Read (before after : List Transaction → Type 0) (a c : Disk) (size 
 pub was_read : (before after : List Transaction → Type 0) (a b c : Disk) (size : ℕ) (headed : Bool) (scan : Scan) → Seen a b size headed → headed ≡ true → LooksOnly b c
     → (IsTrue b.told → IsPrefix log_header (contents b 0) → Walked before after (contents b 0) scan) → Read before after a c size scan
 was_read before after a b c size headed scan saw is looks walked = record {
-  looks = looks_then a b c saw.looks looks;
+  looks = looks_both a b c saw.looks looks;
   sized = saw.sized;
   walked = λ told. walked_at before after a b scan saw.looks told
-      (walked (subst IsTrue (sym (saw.looks).told) told) (subst (λ (l : List ℕ). IsPrefix log_header l) (sym (same_contents a b saw.looks told)) (saw.yes told is)));
+      (walked (subst IsTrue (sym (saw.looks).told) told) (subst (λ (l : List ℕ). IsPrefix log_header l) (sym (looked_contents a b 0 saw.looks told)) (saw.yes told is)));
 }
 
 pub finish_within : (before after : List Transaction → Type 0) (a c : Disk) (size len : ℕ) (scan : Scan) → Read before after a c size scan → len ≡ scan.len → IsTrue c.told → len ≤ length (contents c 0)
 finish_within before after a c size len scan read len_is told =
     let told_a = subst IsTrue (read.looks).told told in
     let walked = read.walked told_a in
-    omega (arith, len_is, (walked.reached).len, ap length (same_contents a c read.looks told_a), ap length (walked.headed).stands, length-append (log_of walked.list) (walked.headed).rest, length-log_of walked.list)
+    omega (arith, len_is, (walked.reached).len, ap length (looked_contents a c 0 read.looks told_a), ap length (walked.headed).stands, length-append (log_of walked.list) (walked.headed).rest, length-log_of walked.list)
 
 pub finish_size : (before after : List Transaction → Type 0) (a c : Disk) (size : ℕ) (scan : Scan) → Read before after a c size scan → IsTrue c.told → size ≡ length (contents c 0)
 finish_size before after a c size scan read told =
     let told_a = subst IsTrue (read.looks).told told in
-    read.sized told_a ∙ ap length (sym (same_contents a c read.looks told_a))
+    read.sized told_a ∙ ap length (sym (looked_contents a c 0 read.looks told_a))
 
 pub cut_moments : (before after : List Transaction → Type 0) (a c d : Disk) (size len : ℕ) (scan : Scan) (result : Result Unit Failed) → Read before after a c size scan → len ≡ scan.len
-    → Changes (CutTo len) result c d → IsTrue a.told → Run a d
+    → Changes 0 (CutTo len) result c d → IsTrue a.told → Run a d
 cut_moments before after a c d size len scan result read len_is changes told =
     let walked = read.walked told in
     changes_safe (CutTo len) a c d read.looks changes.way told (λ file changing. cut_safe (now a 0) file walked.list len walked.headed (len_is ∙ (walked.reached).len) changing)
 
 pub log_opens : (before after : List Transaction → Type 0) (a c d : Disk) (size len cut : ℕ) (scan : Scan) (v : Unit) (log : Binlog) → Read before after a c size scan → len ≡ scan.len
-    → Changes (CutTo len) (Ok v) c d → log.flushed ≡ scan.count → log.durable ≡ scan.count → log.len ≡ scan.len → log.crc ≡ scan.crc → cut ≡ size - len → IsTrue a.told → OpensFor before after a d log cut
+    → Changes 0 (CutTo len) (Ok v) c d → log.flushed ≡ scan.count → log.durable ≡ scan.count → log.len ≡ scan.len → log.crc ≡ scan.crc → cut ≡ size - len → IsTrue a.told → OpensFor before after a d log cut
 log_opens before after a c d size len cut scan v log read len_is changes flushed durable log_len crc cut_is told =
     let walked = read.walked told in
     let headed = walked.headed in
     let reached = walked.reached in
-    let settled : now d 0 ≡ settled_at (log_of walked.list) =
-    changes.ok (subst IsTrue (sym (read.looks).told) told) ∙ ap (λ (l : List ℕ). settled_at (take len l)) (same_contents a c read.looks told)
-    ∙ ap (λ (l : List ℕ). settled_at l) (cut_bytes (contents a 0) walked.list len headed (len_is ∙ reached.len)) in
+    let is_at : now d 0 ≡ settled (log_of walked.list) =
+    changes.ok (subst IsTrue (sym (read.looks).told) told) ∙ ap (λ (l : List ℕ). settled (take len l)) (looked_contents a c 0 read.looks told)
+    ∙ ap (λ (l : List ℕ). settled l) (cut_bytes (contents a 0) walked.list len headed (len_is ∙ reached.len)) in
     let room = length-append (log_of walked.list) headed.rest in
     record {
       list = walked.list;
       opens = record {
         logged = inl headed;
-        is_log = settled_log log walked.list (now d 0) settled scan reached flushed durable log_len crc;
-        settled = is_settled (now d 0) (log_of walked.list) settled;
+        is_log = settled_log log walked.list (now d 0) is_at scan reached flushed durable log_len crc;
+        settled = is_settled (now d 0) (log_of walked.list) is_at;
         durable = durable ∙ sym flushed;
         headed = λ at. omega (arith, cut_is, len_is, reached.len, read.sized told, ap length headed.stands, room, length-log_of walked.list);
         headless = λ none. absurd (none.no_header (

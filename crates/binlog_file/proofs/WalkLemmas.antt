@@ -1,13 +1,11 @@
 -- Reading the log piece by piece.
-use Rattle.std.proofs.Common.{◌≡◌, ◌⊎◌, ⊎_elim, ℕ, ◌+◌, ◌-◌, ◌<◌, ◌≤◌, Bool, true, false, nat_lt, List, [], ◌∷◌, ◌++◌, length, take, drop, Result, Option, Some, None, IfSome, IfNone, IsTrue, refl, sym, ◌∙◌, ap, subst, arith, append_assoc, length-append, take-append-drop}
+use Rattle.std.proofs.Common.{◌≡◌, ◌⊎◌, ⊎_elim, ℕ, ◌+◌, ◌-◌, ◌<◌, ◌≤◌, Bool, true, false, nat_lt, List, [], ◌∷◌, ◌++◌, length, take, drop, Option, Some, None, IfSome, IfNone, IsTrue, refl, sym, ◌∙◌, ap, subst, arith, append_assoc, length-append, take-append-drop}
 use Rattle.std.proofs.lemmas.List.{append-nil, take_at, drop_at, drop_all, length-drop, length-take}
-use Rattle.std.proofs.lemmas.Bool.{cases_eq}
 use Rattle.std.proofs.lemmas.Bool.Decides.{nat_tests}
-use Rattle.fault_counts.specs.Rose.{Rose}
-use Rattle.disk_model.specs.declared.storage.Failed.{Failed}
-use Rattle.disk_model.specs.File.{File, Stays}
-use Rattle.disk_model.specs.Disk.{Disk, now, contents, Called, Fills}
-use Rattle.disk_model.proofs.Moments.{started, goes_on}
+use Rattle.disk_model.specs.File.{File}
+use Rattle.disk_model.specs.Disk.{Disk, contents, Fills}
+use Rattle.disk_model.specs.Looking.{LooksOnly}
+use Rattle.disk_model.proofs.LookingLemmas.{looked}
 use Rattle.frame_codec.specs.Frame.{Event, limit}
 use Rattle.frame_codec.specs.Chain.{chain_of, end_of, last_checksum}
 use Rattle.frame_codec.proofs.ChainLemmas.{chain_of-nil, chain_of-append, length-chain_of}
@@ -19,7 +17,7 @@ use Rattle.binlog_file.specs.declared.transaction.Transaction.{Transaction}
 use Rattle.binlog_file.specs.Transaction.{events_of}
 use Rattle.binlog_file.specs.Logged.{header_checksum, log_header, all_events, log_end, log_checksum, log_of, AreFit}
 use Rattle.binlog_file.specs.Found.{Finds, NoTransactionAt}
-use Rattle.binlog_file.specs.Opening.{IsUntouched, LooksOnly, Reached, Walks, Walked}
+use Rattle.binlog_file.specs.Opening.{Reached, Walks, Walked}
 use Rattle.binlog_file.proofs.TransactionLemmas.{length-events_of}
 use Rattle.binlog_file.proofs.LoggedLemmas.{all_events-append, all_events_one, AreFit-append}
 use Rattle.binlog_file.proofs.CallLemmas.{length-log_of, log_of-append, log_end-append, log_checksum-append}
@@ -148,24 +146,6 @@ walk_short first stands old scan bytes rest is_last walking list reached =
 
 -- Pieces of the file.
 
-pub looks_none : (d : Disk) → LooksOnly d d
-looks_none d = record { told = refl; later = omega arith; no_fewer = omega arith; moments = λ told. started d (IsUntouched d) (λ f. refl) }
-
-pub looks_more : {T : Type 0} (start old new : Disk) (result : Result T Failed) → LooksOnly start old → Called 0 Stays result old new → LooksOnly start new
-looks_more start old new result looks called = record {
-  told = called.told ∙ looks.told;
-  later = omega (arith, looks.later, called.later);
-  no_fewer = omega (arith, looks.no_fewer, called.no_fewer);
-  moments = λ told.
-      let before = (looks.moments told).each old.calls looks.later (omega arith) in
-      goes_on start old new (IsUntouched start) 0 Stays result (subst IsTrue (sym looks.told) told) (looks.moments told) called
-      (λ others did f. ⊎_elim (λ is. subst (λ (n : ℕ). now new n ≡ now start n) (sym is) (⊎_elim (λ same. same) (λ same. same) did ∙ before 0)) (λ not. others f not ∙ before f) (cases_eq f 0));
-}
-
--- what the calls so far have left
-pub looked : (start d : Disk) → LooksOnly start d → IsTrue start.told → (f : ℕ) → now d f ≡ now start f
-looked start d looks told = (looks.moments told).each d.calls looks.later (omega arith)
-
 -- where a reading of the file stands
 pub record Reading (first stands : List Transaction → Type 0) (start : Disk) (scan : Scan) : Type 0 where
   pub so_far : IsTrue start.told → IsPrefix log_header (contents start 0)
@@ -262,9 +242,6 @@ some_is (Some w) v P is if_some = let same : w ≡ v = cc in subst P same if_som
 pub none_is : {A : Type 0} (o : Option A) (P : Type 0) → o ≡ None → IfNone o P → P
 none_is None P is if_none = if_none
 none_is (Some w) P is if_none = cc
-
-pub rose_since : (first before after : ℕ) → first ≤ before → Rose before after → Rose first after
-rose_since first before after le rose = omega (arith, le, rose)
 
 pub shorter : (xs : List ℕ) (n : ℕ) → 0 < n → n ≤ length xs → length (take (length xs - n) (drop n xs)) < length xs
 shorter xs n some within = omega (arith, length-take (length xs - n) (drop n xs), length-drop n xs)

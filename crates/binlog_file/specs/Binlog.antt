@@ -48,6 +48,14 @@ pub record Carries (log : Binlog) (bytes : List ℕ) (more : List Transaction) :
   pub spelt : bytes ≡ chain_of log.crc log.len (all_events more)
   pub ends : EndsWithin log.len (all_events more)
 
+-- P of each list of transactions for which the log stands in file 0, where contents are told
+abbrev pub EachLog : Binlog → Disk → (List Transaction → Type 0) → Type 0
+EachLog log disk P = (list : List Transaction) → IsTrue disk.told → IsLog log list (now disk 0) → P list
+
+-- P of each such list, and of so many transactions whose bytes these are, behind it
+abbrev pub EachAppend : Binlog → List ℕ → ℕ → Disk → (List Transaction → List Transaction → Type 0) → Type 0
+EachAppend log bytes count disk P = (list more : List Transaction) → IsTrue disk.told → count ≡ length more → Carries log bytes more → IsLog log list (now disk 0) → P list more
+
 -- the counts and the end after so many more transactions
 pub record GoesOn (old new : Binlog) (count size : ℕ) : Type 0 where
   pub flushed : new.flushed ≡ old.flushed + count

@@ -6,5 +6,4 @@ pub mod Found
 pub mod Reading
 pub mod Writing
 pub mod Opening
-pub mod Staged
 pub mod Events

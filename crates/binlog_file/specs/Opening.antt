@@ -1,7 +1,7 @@
 -- What an opening of the log does: what it has read so far, and what it leaves. (This project.)
-use Rattle.std.specs.Prelude.{◌≡◌, ◌⊎◌, ◌+◌, ◌≤◌, ℕ, Bool, true, IsTrue, List, [], ◌++◌, length}
+use Rattle.std.specs.Prelude.{◌≡◌, ◌⊎◌, ◌+◌, ℕ, Bool, true, List, [], ◌++◌, length}
 use Rattle.disk_model.specs.File.{File, IsSettled}
-use Rattle.disk_model.specs.Disk.{Disk, now, contents, Keeps}
+use Rattle.disk_model.specs.Disk.{Disk, now, contents}
 use Rattle.frame_codec.specs.Chain.{chain_of, EndsWithin}
 use Rattle.framed_file.specs.Framed.{header_len}
 use Rattle.binlog_file.specs.declared.binlog.Binlog.{Binlog}
@@ -10,17 +10,6 @@ use Rattle.binlog_file.specs.declared.transaction.Transaction.{Transaction}
 use Rattle.binlog_file.specs.Logged.{all_events, log_end, log_checksum, AreFit, Headed, Headless, IsLogged, Holds}
 use Rattle.binlog_file.specs.Binlog.{flushed_of, durable_of, IsLog}
 use Rattle.binlog_file.specs.Found.{NoTransactionAt}
-
--- all files as they were
-abbrev pub IsUntouched : Disk → (ℕ → File) → Type 0
-IsUntouched start files = (f : ℕ) → files f ≡ now start f
-
--- some calls only looked: the counts go on, and at each moment all files are as they were
-pub record LooksOnly (start end : Disk) : Type 0 where
-  pub told : end.told ≡ start.told
-  pub later : start.calls ≤ end.calls
-  pub no_fewer : start.faults ≤ end.faults
-  pub moments : IsTrue start.told → Keeps start end (IsUntouched start)
 
 -- a reading has come behind these transactions
 pub record Reached (scan : Scan) (list : List Transaction) : Type 0 where

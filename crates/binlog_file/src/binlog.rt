@@ -3,7 +3,7 @@
 //! Invariant: of `flushed` transactions the first `durable` were there at the last sync, and the file has `len` bytes, the last frame
 //! with the checksum `crc` (`IsLog`). A transaction is durable only by a sync behind its write.
 ghost use Rattle.std.specs.Prelude.{◌≡◌, ◌≤◌, ◌<◌, ◌+◌, ◌-◌, ◌*◌, ◌++◌, ◌∷◌, [], ℕ, List, length, take, OnOk, OnErr, IsTrue, IsErr};
-ghost use Rattle.disk_model.specs.Disk.{Disk, now, contents, Called, Keeps, Only, HasCause};
+ghost use Rattle.disk_model.specs.Disk.{Disk, now, contents, Called, Keeps, Only, HasCause, MakesCalls};
 ghost use Rattle.disk_model.specs.File.{Writes, IsSettled};
 ghost use Rattle.frame_codec.specs.Frame.{Event};
 ghost use Rattle.binlog_file.specs.Logged.{Holds};
@@ -43,7 +43,7 @@ pub(crate) fn write_at(volume: &mut dyn Storage, at: u64, bytes: &[u8]) -> Resul
 }
 
 impl Binlog {
-    ghost use Rattle.binlog_file.specs.Binlog.{flushed_of, durable_of, end_in, checksum_in, IsLog, IsOpen, Carries, GoesOn, IsSame};
+    ghost use Rattle.binlog_file.specs.Binlog.{flushed_of, durable_of, end_in, checksum_in, IsLog, IsOpen, Carries, EachLog, EachAppend, GoesOn, IsSame};
 
     /// Appends `count` whole transactions, by one write at the end. They are durable only after a sync.
     ///
@@ -58,22 +58,18 @@ impl Binlog {
             × Carries self.old bytes.now more }
         requires log { IsOpen self.old (disk volume.old) }
 
-        ensures ok { (list more : List Transaction) → IsTrue (disk volume.old).told
-            → count ≡ length more → Carries self.old bytes.now more
-            → IsLog self.old list (now (disk volume.old) 0)
-            → OnOk result (IsLog self.new (list ++ more) (now (disk volume.new) 0)) }
+        ensures ok { EachAppend self.old bytes.now count (disk volume.old) (λ list more.
+            OnOk result (IsLog self.new (list ++ more) (now (disk volume.new) 0))) }
         ensures counts { OnOk result (GoesOn self.old self.new count (length bytes.now)) }
         ensures err { OnErr result (IsSame self.old self.new) }
 
         // A crash leaves every durable transaction, and of the others and of these a first part.
-        ensures any_moment { (list more : List Transaction) → IsTrue (disk volume.old).told
-            → count ≡ length more → Carries self.old bytes.now more
-            → IsLog self.old list (now (disk volume.old) 0)
-            → Keeps (disk volume.old) (disk volume.new) (Only 0 (now (disk volume.old))
-            (Holds (take (durable_of self.old) list) (list ++ more))) }
+        ensures any_moment { EachAppend self.old bytes.now count (disk volume.old) (λ list more.
+            Keeps (disk volume.old) (disk volume.new) (Only 0 (now (disk volume.old))
+            (Holds (take (durable_of self.old) list) (list ++ more)))) }
 
         ensures device { HasCause IsErr result (disk volume.old) (disk volume.new) }
-        ensures device_calls { OnOk result ((disk volume.new).calls ≡ (disk volume.old).calls + 1) }
+        ensures device_calls { MakesCalls 1 result (disk volume.old) (disk volume.new) }
     {
         write_at(volume, u64::from(self.len), bytes)?;
         *self = Binlog {
@@ -89,23 +85,21 @@ impl Binlog {
     ///
     /// `Failed` where the device failed; then the log is only dropped, or opened again from the volume.
     pub fn sync(&mut self, volume: &mut dyn Storage) -> Result<(), Failed>
-        ensures ok { (list : List Transaction) → IsTrue (disk volume.old).told
-            → IsLog self.old list (now (disk volume.old) 0)
-            → OnOk result (IsLog self.new list (now (disk volume.new) 0)
-            × IsSettled (now (disk volume.new) 0)) }
+        ensures ok { EachLog self.old (disk volume.old) (λ list.
+            OnOk result (IsLog self.new list (now (disk volume.new) 0)
+            × IsSettled (now (disk volume.new) 0))) }
         ensures durable { OnOk result (durable_of self.new ≡ flushed_of self.old) }
         ensures counts { (flushed_of self.new ≡ flushed_of self.old)
             × (end_in self.new ≡ end_in self.old) × (checksum_in self.new ≡ checksum_in self.old) }
         ensures err { OnErr result (IsSame self.old self.new) }
 
         // A crash leaves every durable transaction, and of the others a first part.
-        ensures any_moment { (list : List Transaction) → IsTrue (disk volume.old).told
-            → IsLog self.old list (now (disk volume.old) 0)
-            → Keeps (disk volume.old) (disk volume.new) (Only 0 (now (disk volume.old))
-            (Holds (take (durable_of self.old) list) list)) }
+        ensures any_moment { EachLog self.old (disk volume.old) (λ list.
+            Keeps (disk volume.old) (disk volume.new) (Only 0 (now (disk volume.old))
+            (Holds (take (durable_of self.old) list) list))) }
 
         ensures device { HasCause IsErr result (disk volume.old) (disk volume.new) }
-        ensures device_calls { OnOk result ((disk volume.new).calls ≡ (disk volume.old).calls + 1) }
+        ensures device_calls { MakesCalls 1 result (disk volume.old) (disk volume.new) }
     {
         volume.sync(0)?;
         self.durable = self.flushed;

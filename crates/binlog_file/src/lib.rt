@@ -1,8 +1,8 @@
 //! The binary log's file: a header, and transactions as chained frames.
 //!
 //! One idea makes it right: the file is only added to, and a transaction is there exactly where all its frames are (`IsLogged`). So a
-//! crash image has every transaction that was synced, and of the others a first part (`Holds`). It stands on `disk_model`,
-//! `frame_codec` and `framed_file`.
+//! crash image has every transaction that was synced, and of the others a first part (`Holds`). It stands on `fault_counts`,
+//! `disk_model`, `frame_codec`, `framed_file` and, for the printed forms of its errors, `thiserror`.
 #![tactic(auto)]
 
 mod binlog;
@@ -31,4 +31,4 @@ pub use read::{Found, transaction_at};
 pub use text::Text;
 pub use transaction::{Change, Transaction};
 pub use visit::Visit;
-pub use write::{put_transaction, transaction_len};
+pub use write::{LEN_WITHOUT_TEXT, put_transaction, transaction_len};

@@ -6,10 +6,10 @@ ghost use Rattle.std.specs.Prelude.{◌≡◌, ◌≤◌, ◌<◌, ◌↔◌, Li
 ghost use Rattle.fault_counts.specs.Rose.{Rose};
 ghost use Rattle.disk_model.specs.File.{Wrote, CutTo, Cuts};
 ghost use Rattle.disk_model.specs.Disk.{Disk, Called, contents};
+ghost use Rattle.disk_model.specs.Looking.{LooksOnly};
+ghost use Rattle.disk_model.specs.Staged.{Changes};
 ghost use Rattle.framed_file.specs.Framed.{IsPrefix};
 ghost use Rattle.binlog_file.specs.Logged.{log_header};
-ghost use Rattle.binlog_file.specs.Opening.{LooksOnly};
-ghost use Rattle.binlog_file.specs.Staged.{Changes};
 
 use crate::binlog::write_at;
 use crate::scan::HEADER;
@@ -32,7 +32,7 @@ pub(crate) fn has_header(volume: &mut dyn Storage) -> Result<bool, Failed>
 
 /// Makes an empty log of a file without a header.
 pub(crate) fn put_header(volume: &mut dyn Storage) -> Result<(), Failed>
-    ensures { Changes (Wrote 0 log_header) result (disk volume.old) (disk volume.new) }
+    ensures { Changes 0 (Wrote 0 log_header) result (disk volume.old) (disk volume.new) }
 {
     volume.sync(0)?;
     write_at(volume, 0, &HEADER)?;
@@ -42,7 +42,7 @@ pub(crate) fn put_header(volume: &mut dyn Storage) -> Result<(), Failed>
 /// Cuts what stands behind a length.
 pub(crate) fn cut_behind(volume: &mut dyn Storage, len: u64) -> Result<(), Failed>
     requires { IsTrue (disk volume.old).told → len ≤ length (contents (disk volume.old) 0) }
-    ensures { Changes (CutTo len) result (disk volume.old) (disk volume.new) }
+    ensures { Changes 0 (CutTo len) result (disk volume.old) (disk volume.new) }
 {
     volume.sync(0)?;
     cut_at(volume, len)?;
@@ -53,7 +53,7 @@ pub(crate) fn cut_behind(volume: &mut dyn Storage, len: u64) -> Result<(), Faile
 pub(crate) fn finish(volume: &mut dyn Storage, len: u64, size: u64) -> Result<(), Failed>
     requires within { IsTrue (disk volume.old).told → len ≤ length (contents (disk volume.old) 0) }
     requires size { IsTrue (disk volume.old).told → size ≡ length (contents (disk volume.old) 0) }
-    ensures { Changes (CutTo len) result (disk volume.old) (disk volume.new) }
+    ensures changes { Changes 0 (CutTo len) result (disk volume.old) (disk volume.new) }
 {
     if len < size {
         cut_behind(volume, len)

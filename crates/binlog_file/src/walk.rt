@@ -3,10 +3,11 @@
 //! Invariant: what was read so far is the log's front, and the visitor stands for its transactions (`Walks`).
 ghost use Rattle.std.specs.Prelude.{◌≡◌, ◌≤◌, ◌<◌, ◌+◌, ℕ, List, length, true, false, IfOk, IsTrue, IsErrOf, Err};
 ghost use Rattle.disk_model.specs.Disk.{Disk, contents};
+ghost use Rattle.disk_model.specs.Looking.{LooksOnly};
 ghost use Rattle.fault_counts.specs.Rose.{Rose};
 ghost use Rattle.framed_file.specs.Framed.{IsPrefix};
 ghost use Rattle.binlog_file.specs.Logged.{log_header};
-ghost use Rattle.binlog_file.specs.Opening.{LooksOnly, Reached, Walks, Walked};
+ghost use Rattle.binlog_file.specs.Opening.{Reached, Walks, Walked};
 ghost use Rattle.binlog_file.specs.declared.transaction.Transaction.{Transaction};
 ghost use Rattle.binlog_file.specs.declared.fault.BinlogFault.TheVariants.{Device, NotAVolume};
 

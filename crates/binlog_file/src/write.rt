@@ -10,8 +10,8 @@ use crate::{Change, Transaction};
 use frame_codec::put_frame;
 use std::alloc::{AllocError, Global};
 
-/// How many bytes a transaction has whose text is empty.
-const LEN_WITHOUT_TEXT: u32 = 124;
+/// How many bytes a transaction has in the log whose text is empty.
+pub const LEN_WITHOUT_TEXT: u32 = 124;
 
 /// How many bytes a row image has before its text.
 const IMAGE_HEAD: usize = 10;
@@ -40,7 +40,7 @@ fn put_insert(
     out: &mut Vec<u8>,
 ) -> Result<u32, AllocError>
     requires text { length text.now ≤ 10 }
-    requires room { at + 124 + length text.now ≤ 2147483647 }
+    requires room { at + LEN_WITHOUT_TEXT + length text.now ≤ 2147483647 }
     ensures ok { OnOk result
         (out.new.items ≡ out.old.items ++ chain_of prev at (events_of (insert xid key text.now))) }
     ensures value { IfOk result

@@ -1,5 +1,5 @@
 -- Crash images by the calls up to a moment.
-use Rattle.std.proofs.Common.{◌≡◌, ◌≢◌, ◌⊎◌, inl, inr, ⊎_elim, ℕ, ◌+◌, ◌-◌, ◌<◌, ◌≤◌, Bool, true, false, nat_lt, nat_le, ◌==◌, ◌||◌, List, [], ◌∷◌, ◌++◌, length, take, drop, get_or, if◌then◌else◌, refl, sym, ◌∙◌, ap, subst, arith}
+use Rattle.std.proofs.Common.{◌≡◌, ◌≢◌, ◌⊎◌, inl, inr, ⊎_elim, ℕ, ◌+◌, ◌-◌, ◌<◌, ◌≤◌, Bool, true, false, nat_lt, nat_le, ◌==◌, ◌||◌, List, [], ◌∷◌, ◌++◌, length, min, take, drop, get_or, if◌then◌else◌, refl, sym, ◌∙◌, ap, subst, arith}
 use Rattle.std.proofs.lemmas.Bool.Decides.{nat_tests}
 use Rattle.std.proofs.lemmas.List.{take_all, take_min, length-take, drop_more, drop_all, take_more}
 use Rattle.disk_model.specs.declared.choice.Choice.{Choice}
@@ -16,7 +16,7 @@ use Rattle.disk_model.specs.Fresh.{Holding}
 use Rattle.disk_model.specs.declared.memory.MemoryStorage.{MemoryStorage}
 use Rattle.disk_model.specs.Held.{held, bytes_in, put_in}
 use Rattle.disk_model.specs.Past.{until, step_of, replayed, after_call, after_calls, fits, all_fit}
-use Rattle.disk_model.specs.Choosing.{syncs, is_synced, granted, spent, goes_on, asked_by, part_call, choice_next, after_next, image_of}
+use Rattle.disk_model.specs.Choosing.{syncs, is_synced, granted, spent, goes_on, asked_by, asked_in, part_call, choice_next, after_next, image_of}
 use Rattle.disk_model.proofs.HeldLemmas.{bool_cases, same_number, number_is, bytes_put_here, bytes_put_other, bytes_cut_here, bytes_cut_other}
 use Rattle.disk_model.proofs.Replay.{both_true, first_true, second_true, replayed_bytes, call_bytes, call_bytes_here, call_bytes_other, after_calls-push}
 use Rattle.disk_model.proofs.Contents.{settled_contents, part_written, write_skipped, cut_image}
@@ -237,6 +237,44 @@ part_none file (Write at bytes) files = refl
 part_none file (Cut len) files = refl
 part_none file Sync files = refl
 
+-- The first bytes, where they are none and where they are all.
+
+part_no_byte : (file : ℕ) (kind : Kind) (files : List (ℕ × List ℕ)) → part_call (FirstBytes 0) file kind files ≡ files
+part_no_byte file (Write at bytes) files = refl
+part_no_byte file (Cut len) files = refl
+part_no_byte file Sync files = refl
+
+still_no_byte : (call : Call) (rest : List Call) → choice_next (FirstBytes 0) call rest ≡ FirstBytes 0
+still_no_byte call rest = elim (bool_cases (is_synced call.file rest)) [ inl whole ↦ rw whole refl | inr part ↦ rw part (ap (λ (n : ℕ). FirstBytes n) (let none : 0 - asked_by call.kind ≡ 0 = omega arith in none)) ]
+
+next_no_byte : (call : Call) (rest : List Call) (files : List (ℕ × List ℕ)) → after_next (FirstBytes 0) call rest files ≡ after_next Synced call rest files
+next_no_byte call rest files = elim (bool_cases (is_synced call.file rest)) [
+  | inl whole ↦ rw whole refl
+  | inr part ↦ rw part (part_no_byte call.file call.kind files ∙ sym (part_none call.file call.kind files))
+]
+
+-- no byte is what was synced
+pub image_no_byte : (files : List (ℕ × List ℕ)) (past : List Call) → image_of (FirstBytes 0) files past ≡ image_of Synced files past
+image_no_byte files [] = refl
+image_no_byte files (call ∷ rest) =
+    let after = after_next Synced call rest files in
+    ap (λ (ch : Choice). image_of ch (after_next (FirstBytes 0) call rest files) rest) (still_no_byte call rest)
+    ∙ ap (λ (l : List (ℕ × List ℕ)). image_of (FirstBytes 0) l rest) (next_no_byte call rest files)
+    ∙ image_no_byte after rest ∙ ap (λ (ch : Choice). image_of ch after rest) (sym (still_synced call rest))
+
+-- more bytes than are written are all that was asked for
+pub image_each_byte : (left : ℕ) (files : List (ℕ × List ℕ)) (past : List Call) → asked_in past < left → image_of (FirstBytes left) files past ≡ image_of Whole files past
+image_each_byte left files [] less = refl
+image_each_byte left files (call ∷ rest) less = elim (bool_cases (is_synced call.file rest)) [
+  | inl whole ↦ rw whole (image_each_byte left (part_call Whole call.file call.kind files) rest (omega (arith, less)))
+  | inr part ↦
+      let asked = asked_by call.kind in
+      let on : nat_lt 0 left ≡ true = grind (arith, nat_tests, less) in
+      let granted_all : min left asked ≡ asked = omega (arith, less) in
+      rw part (ap (λ (l : List (ℕ × List ℕ)). image_of (FirstBytes (left - asked)) l rest) (part_full (FirstBytes left) call.file call.kind files on granted_all ∙ sym (part_whole call.file call.kind files))
+      ∙ image_each_byte (left - asked) (part_call Whole call.file call.kind files) rest (omega (arith, less)))
+]
+
 -- what a step leaves synced, where no later call syncs the file
 kept_here : (file : ℕ) (kind : Kind) (g : File) (files image : List (ℕ × List ℕ)) (later : Bool) → later ≡ false → g.bytes ≡ bytes_in files file
     → ((syncs file file kind || later) ≡ true → bytes_in image file ≡ bytes_in files file) → ((syncs file file kind || later) ≡ false → bytes_in image file ≡ g.synced) → bytes_in image file ≡ (step_of kind g).synced
@@ -365,9 +403,24 @@ pub synced_is : (m : MemoryStorage) (moment : ℕ) (file : ℕ) → bytes_in (im
 synced_is m moment file =
     synced_image file (first_file (start_of m) file) (start_of m) (start_of m) (calls_of m moment) (goes_first Synced (calls_of m moment) (start_of m) (fitting m moment)) refl (λ none. refl)
 
+-- by no byte what was synced
+pub no_byte_is : (m : MemoryStorage) (moment : ℕ) (file : ℕ) → bytes_in (image_of (FirstBytes 0) (start_of m) (calls_of m moment)) file ≡ ((memory_disk m).at moment file).synced
+no_byte_is m moment file = ap (λ (l : List (ℕ × List ℕ)). bytes_in l file) (image_no_byte (start_of m) (calls_of m moment)) ∙ synced_is m moment file
+
+-- by more bytes than were written what a read gave
+pub each_byte_is : (m : MemoryStorage) (moment n : ℕ) (file : ℕ) → asked_in (calls_of m moment) < n → bytes_in (image_of (FirstBytes n) (start_of m) (calls_of m moment)) file ≡ ((memory_disk m).at moment file).bytes
+each_byte_is m moment n file less = ap (λ (l : List (ℕ × List ℕ)). bytes_in l file) (image_each_byte n (start_of m) (calls_of m moment) less) ∙ whole_is m moment file
+
 -- the contents of what holds them
 pub holding_bytes : (files want : List (ℕ × List ℕ)) (made : MemoryStorage) (file : ℕ) → Holding files made → files ≡ want → contents (memory_disk made) file ≡ bytes_in want file
 holding_bytes files want made file holding same = ap (λ (f : File). f.bytes) (holding.each file) ∙ ap (λ (l : List (ℕ × List ℕ)). bytes_in l file) same
+
+-- the contents of an image, by its choice
+pub chosen_bytes : (m : MemoryStorage) (moment : ℕ) (choice one : Choice) (files : List (ℕ × List ℕ)) (made : MemoryStorage) (file : ℕ) (want : List ℕ) → choice ≡ one → Holding files made → files ≡ image_of choice (start_of m) (calls_of m moment)
+    → bytes_in (image_of one (start_of m) (calls_of m moment)) file ≡ want → contents (memory_disk made) file ≡ want
+chosen_bytes m moment choice one files made file want is holding chosen bytes =
+    holding_bytes files (image_of choice (start_of m) (calls_of m moment)) made file holding chosen
+    ∙ ap (λ (ch : Choice). bytes_in (image_of ch (start_of m) (calls_of m moment)) file) is ∙ bytes
 
 -- and nothing is pending
 pub holding_settled : (files : List (ℕ × List ℕ)) (made : MemoryStorage) (file : ℕ) → Holding files made → IsSettled (now (memory_disk made) file)

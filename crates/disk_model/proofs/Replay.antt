@@ -12,7 +12,7 @@ use Rattle.disk_model.specs.File.{File, Stays, written}
 use Rattle.disk_model.specs.Disk.{now, contents, Does, Called, Fills}
 use Rattle.disk_model.specs.Held.{held, bytes_in}
 use Rattle.fault_counts.specs.Rose.{last}
-use Rattle.disk_model.specs.Counting.{Counted, Faulted, SameBut}
+use Rattle.disk_model.specs.Counting.{FailsExactly, Counted, Faulted, SameBut}
 use Rattle.disk_model.specs.Past.{newest, until, step_of, replayed, after_call, after_calls, fits, all_fit, AddsCall}
 use Rattle.disk_model.specs.Start.{first_file}
 use Rattle.disk_model.specs.Memory.{memory_disk}
@@ -138,18 +138,19 @@ does_step old new file step rel result start calls adds did = record {
     made = pushed file ∙ rw same (adds.step_is (files_by old.start.items old.past.items file)) ∙ ap step (sym (file_now old file))
 
 -- a call that changed nothing
-module _ {T : Type 0} (old new : MemoryStorage) (file : ℕ) (rel : File → File → Type 0) (result : Result T Failed) (start : new.start.items ≡ old.start.items) (past : new.past.items ≡ old.past.items) where
+module _ (old new : MemoryStorage) (start : new.start.items ≡ old.start.items) (past : new.past.items ≡ old.past.items) where
   same_at : (m : ℕ) → (memory_disk new).at m ≡ (memory_disk old).at m
   same_at m = ap (λ (l : List FileBytes). files_by l (until m new.past.items)) start ∙ ap (λ (l : List Call). files_by old.start.items (until m l)) past
 
-  same_now : (f : ℕ) → now (memory_disk new) f ≡ now (memory_disk old) f
+  pub same_now : (f : ℕ) → now (memory_disk new) f ≡ now (memory_disk old) f
   same_now f = file_now new f ∙ ap (λ (l : List FileBytes). files_by l new.past.items f) start ∙ ap (λ (l : List Call). files_by old.start.items l f) past ∙ sym (file_now old f)
 
+module _ {T : Type 0} (old new : MemoryStorage) (file : ℕ) (rel : File → File → Type 0) (result : Result T Failed) (start : new.start.items ≡ old.start.items) (past : new.past.items ≡ old.past.items) where
   pub does_nothing : IsErr result → Does file rel result (memory_disk old) (memory_disk new)
-  does_nothing err = record { past = λ m le. same_at m; others = λ f not. same_now f; here = inr (err, same_now file) }
+  does_nothing err = record { past = λ m le. same_at old new start past m; others = λ f not. same_now old new start past f; here = inr (err, same_now old new start past file) }
 
   pub does_stays : Does file Stays result (memory_disk old) (memory_disk new)
-  does_stays = record { past = λ m le. same_at m; others = λ f not. same_now f; here = inl (same_now file) }
+  does_stays = record { past = λ m le. same_at old new start past m; others = λ f not. same_now old new start past f; here = inl (same_now old new start past file) }
 
 -- The answer of a whole call.
 
@@ -214,6 +215,27 @@ called_starved old mid low new file rel u result err counted same past fault sam
   no_fewer = omega (arith, same_faults, same.faults, fault.no_fewer);
   cause = λ is. omega (arith, same_faults, same.faults, fault.cause);
   does = λ told. does_nothing old new file rel result (fault.same.start ∙ same.start ∙ counted.same.start) (fault.same.past ∙ past ∙ counted.same.past) err;
+}
+
+-- Which calls fail, and that they do nothing.
+
+-- it failed as it was counted
+pub fails_counted : {T U : Type 0} (old new : MemoryStorage) (r : Result U Failed) (result : Result T Failed) → IsErr r → IsErr result → Counted r old new → FailsExactly result old new
+fails_counted old new r result is_err err counts = record {
+  exactly = (λ is. ⊎_elim (λ given. inl given) (λ all. inr (inr all)) (counts.exactly.0 is_err), λ any. err);
+  starved = omega (arith, counts.starved);
+  failing = counts.same.failing;
+  nothing = λ is. same_now old new counts.same.start counts.same.past;
+}
+
+-- there was no memory to note it
+pub fails_starved : {T U : Type 0} (old mid low new : MemoryStorage) (u : U) (result : Result T Failed) → IsErr result → Counted {T = U} (Ok u) old mid → SameBut mid low → low.past.items ≡ mid.past.items
+    → Faulted low new → new.starved ≡ low.starved + 1 → FailsExactly result old new
+fails_starved old mid low new u result err counted same past fault starved = record {
+  exactly = (λ is. inr (inl (omega (arith, starved, same.starved, counted.starved))), λ any. err);
+  starved = omega (arith, starved, same.starved, counted.starved);
+  failing = fault.same.failing ∙ same.failing ∙ counted.same.failing;
+  nothing = λ is. same_now old new (fault.same.start ∙ same.start ∙ counted.same.start) (fault.same.past ∙ past ∙ counted.same.past);
 }
 
 -- What is read.

@@ -81,14 +81,15 @@ module _ (file : ℕ) (step : Step) (start : Disk) where
   pub settled_first : (new : Disk) (v : Unit) → IsTrue start.told → Called {T = Unit} file (Syncs (Ok v)) (Ok v) start new → now new file ≡ settled (contents start file)
   settled_first new v told called = (done_ok start new file (Syncs (Ok v)) v told called).ok
 
-  way_stepped : (old new : Disk) (S : File → File → Type 0) (result : Result Unit Failed) → IsOnWay file step start old → (IsTrue start.told → now old file ≡ settled (contents start file))
+  -- the step, asked for of a file that was synced
+  pub way_stepped : (old new : Disk) (S : File → File → Type 0) (result : Result Unit Failed) → IsOnWay file step start old → (IsTrue start.told → now old file ≡ settled (contents start file))
       → Called file S result old new → ((was now_is : File) → S was now_is → (now_is.synced ≡ was.synced) × (now_is.steps ≡ step ∷ was.steps)) → IsOnWay file step start new
   way_stepped old new S result way at called noted = way_more file step start old new S result way called
       (λ told did. let both = noted (now old file) (now new file) did in
       stepping (both.0 ∙ ap (λ (f : File). f.synced) (at told)) (both.1 ∙ ap (λ (f : File). step ∷ f.steps) (at told)))
 
   -- the file after the step, before the last sync
-  abbrev Stepped : Disk → Type 0
+  abbrev pub Stepped : Disk → Type 0
   Stepped d = IsTrue start.told → (now d file).bytes ≡ after_step step (contents start file) × ((now d file).synced ≡ contents start file) × ((now d file).steps ≡ step ∷ [])
 
   way_last : (old new : Disk) (result : Result Unit Failed) → IsOnWay file step start old → Stepped old → Called file (Syncs result) result old new → IsOnWay file step start new
@@ -98,7 +99,8 @@ module _ (file : ℕ) (step : Step) (start : Disk) where
       (λ is. stepping (ap (λ (f : File). f.synced) is ∙ at.1) (ap (λ (f : File). f.steps) is ∙ at.2))
       (sync_cases result (now old file) (now new file) did))
 
-  changes_last : (old new : Disk) (result : Result Unit Failed) → IsOnWay file step start old → Stepped old → Called file (Syncs result) result old new → Changes file step result start new
+  -- the last sync
+  pub changes_last : (old new : Disk) (result : Result Unit Failed) → IsOnWay file step start old → Stepped old → Called file (Syncs result) result old new → Changes file step result start new
   changes_last old new result way stepped called = record {
     way = way_last old new result way stepped called;
     cause = λ is. rose_on start.faults old.faults new.faults way.no_fewer (called.cause is);

@@ -1,5 +1,5 @@
 -- Which of the calls up to a moment a crash image keeps, and how much of each. (This project.)
-use Rattle.std.specs.Prelude.{ℕ, ◌-◌, min, Bool, true, false, List, [], ◌∷◌, take, length, ◌==◌, ◌||◌, nat_lt, if◌then◌else◌}
+use Rattle.std.specs.Prelude.{ℕ, ◌+◌, ◌-◌, min, Bool, true, false, List, [], ◌∷◌, take, length, ◌==◌, ◌||◌, nat_lt, if◌then◌else◌}
 use Rattle.disk_model.specs.declared.choice.Choice.{Choice}
 use Rattle.disk_model.specs.declared.choice.Choice.TheVariants.{Whole, Synced, FirstBytes}
 use Rattle.disk_model.specs.declared.past.Kind.{Kind}
@@ -42,6 +42,11 @@ abbrev pub asked_by : Kind → ℕ
 asked_by (Write at bytes) = length bytes.items
 asked_by (Cut len) = 0
 asked_by Sync = 0
+
+-- how many bytes these calls write
+abbrev pub asked_in : List Call → ℕ
+asked_in [] = 0
+asked_in (call ∷ past) = asked_by call.kind + asked_in past
 
 -- all files after a call that is done as far as the choice goes
 abbrev pub part_call : Choice → ℕ → Kind → List (ℕ × List ℕ) → List (ℕ × List ℕ)

@@ -3,14 +3,18 @@ use Rattle.std.specs.Prelude.{◌≡◌, ◌⊎◌, ◌↔◌, ◌≤◌, ◌<�
 use Rattle.disk_model.specs.declared.storage.Failed.{Failed}
 use Rattle.disk_model.specs.declared.memory.MemoryStorage.{MemoryStorage}
 use Rattle.disk_model.specs.File.{File}
+use Rattle.disk_model.specs.Disk.{now}
+use Rattle.disk_model.specs.Memory.{memory_disk}
 use Rattle.disk_model.specs.Past.{AddsCall}
 use Rattle.fault_counts.specs.Rose.{last, Rose}
 
 -- A call fails exactly where its number, from 1, was given, where there was no memory to note it, or at the last value of the count.
+-- Where it fails, each file is as it was.
 pub record FailsExactly {T : Type 0} (result : Result T Failed) (old new : MemoryStorage) : Type 0 where
   pub exactly : IsErr result ↔ (Contains old.failing.items (old.calls + 1) ⊎ (old.starved < new.starved) ⊎ (last ≤ old.calls))
   pub starved : old.starved ≤ new.starved
   pub failing : new.failing.items ≡ old.failing.items
+  pub nothing : IsErr result → (file : ℕ) → now (memory_disk new) file ≡ now (memory_disk old) file
 
 -- what a call leaves of all but the files and the counts
 pub record SameFiles (old new : MemoryStorage) : Type 0 where

@@ -1,5 +1,5 @@
 -- The files of a storage at each moment so far, what one call does, and what a run of calls does. (This project's disk model.)
-use Rattle.std.specs.Prelude.{◌≡◌, ◌≢◌, ◌⊎◌, ◌<◌, ◌≤◌, ◌+◌, ◌-◌, ℕ, min, Bool, List, ◌++◌, length, take, drop, Result, IsErr, IsTrue}
+use Rattle.std.specs.Prelude.{◌≡◌, ◌≢◌, ◌⊎◌, ◌<◌, ◌≤◌, ◌+◌, ◌-◌, ℕ, min, Bool, List, ◌++◌, length, take, drop, Result, OnOk, IsErr, IsTrue}
 use Rattle.fault_counts.specs.Rose.{last, Rose}
 use Rattle.disk_model.specs.declared.storage.Failed.{Failed}
 use Rattle.disk_model.specs.File.{File}
@@ -60,3 +60,8 @@ pub record HasCause {T E : Type 0} (IsDevice : Result T E → Type 0) (result : 
   pub later : old.calls ≤ new.calls
   pub no_fewer : old.faults ≤ new.faults
   pub cause : IsDevice result → Rose old.faults new.faults
+
+-- so many device calls were made where it answered Ok, and no more where it did not
+pub record MakesCalls {T E : Type 0} (count : ℕ) (result : Result T E) (old new : Disk) : Type 0 where
+  pub exactly : OnOk result (new.calls ≡ old.calls + count)
+  pub at_most : new.calls ≤ old.calls + count

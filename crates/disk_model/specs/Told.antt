@@ -8,7 +8,7 @@ use Rattle.disk_model.specs.Disk.{Disk, now, contents, Fills}
 use Rattle.disk_model.specs.Held.{held, bytes_in}
 use Rattle.disk_model.specs.Past.{until}
 use Rattle.disk_model.specs.Memory.{memory_disk}
-use Rattle.disk_model.specs.Choosing.{image_of}
+use Rattle.disk_model.specs.Choosing.{asked_in, image_of}
 
 -- an answer of Ok is the file's length
 abbrev pub GivesLength : Result ℕ Failed → Disk → ℕ → Type 0
@@ -33,6 +33,10 @@ HasBytes from moment made = (file : ℕ) → contents (memory_disk made) file �
 -- each file has what was synced at the moment
 abbrev pub HasSynced : MemoryStorage → ℕ → MemoryStorage → Type 0
 HasSynced from moment made = (file : ℕ) → contents (memory_disk made) file ≡ ((memory_disk from).at moment file).synced
+
+-- how many bytes the calls up to a moment write
+abbrev pub asked_until : MemoryStorage → ℕ → ℕ
+asked_until from moment = asked_in (until moment from.past.items)
 
 -- each file has what the choice leaves of the calls up to the moment
 abbrev pub HasChosen : MemoryStorage → ℕ → Choice → MemoryStorage → Type 0

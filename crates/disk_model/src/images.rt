@@ -1,12 +1,12 @@
 //! Crash images of a storage in memory: the calls up to a moment are gone through once more, and done as far as a choice goes.
-ghost use Rattle.std.specs.Prelude.{◌≡◌, ◌≤◌, ◌||◌, ℕ, [], true, false, if◌then◌else◌, OnOk, IfOk};
+ghost use Rattle.std.specs.Prelude.{◌≡◌, ◌≤◌, ◌<◌, ◌||◌, ℕ, [], true, false, if◌then◌else◌, OnOk, IfOk};
 ghost use Rattle.disk_model.specs.File.{IsImage, IsSettled};
 ghost use Rattle.disk_model.specs.Disk.{now, contents};
 ghost use Rattle.disk_model.specs.Held.{held, bytes_in};
 ghost use Rattle.disk_model.specs.Past.{until, call_fits, all_fit};
 ghost use Rattle.disk_model.specs.Memory.{memory_disk};
 ghost use Rattle.disk_model.specs.Fresh.{Begins};
-ghost use Rattle.disk_model.specs.Told.{AllSettled, HasImages, HasBytes, HasSynced, HasChosen};
+ghost use Rattle.disk_model.specs.Told.{AllSettled, HasImages, HasBytes, HasSynced, HasChosen, asked_until};
 ghost use Rattle.disk_model.specs.Choosing.{goes_on, is_synced, part_call, choice_next, after_next, image_of};
 
 use crate::files::{cut, put};
@@ -120,6 +120,9 @@ impl MemoryStorage {
         ensures image { IfOk result (HasImages self.now moment) }
         ensures whole { choice ≡ Choice.Whole → IfOk result (HasBytes self.now moment) }
         ensures synced { choice ≡ Choice.Synced → IfOk result (HasSynced self.now moment) }
+        ensures no_byte { choice ≡ Choice.FirstBytes 0 → IfOk result (HasSynced self.now moment) }
+        ensures each_byte { (n : ℕ) → choice ≡ Choice.FirstBytes n
+            → asked_until self.now moment < n → IfOk result (HasBytes self.now moment) }
         ensures exactly { IfOk result (HasChosen self.now moment choice) }
     {
         let calls = calls_until(&self.past, moment);

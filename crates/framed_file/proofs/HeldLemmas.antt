@@ -1,14 +1,14 @@
 -- What a faithful image of a file holds to which only frames were added since its last sync.
-use Rattle.std.proofs.Common.{◌≡◌, ◌⊎◌, inl, inr, ⊎_elim, ℕ, ◌+◌, ◌-◌, ◌<◌, ◌≤◌, min, List, [], ◌∷◌, ◌++◌, length, take, drop, refl, sym, ◌∙◌, ap, subst, arith, append_assoc, length-append, take-append-drop}
-use Rattle.std.proofs.lemmas.List.{append-nil, take_at, drop_at, take-take, drop-take, length-take, length-drop}
-use Rattle.disk_model.specs.File.{File, IsMeant, IsImage}
+use Rattle.std.proofs.Common.{◌≡◌, ⊎_elim, ℕ, ◌+◌, ◌-◌, ◌<◌, ◌≤◌, List, [], ◌∷◌, ◌++◌, length, take, drop, sym, ◌∙◌, ap, arith, append_assoc, length-append, take-append-drop}
+use Rattle.std.proofs.lemmas.List.{append-nil, drop_at, take-take, drop-take, length-take, length-drop}
+use Rattle.disk_model.specs.File.{File, IsImage}
 use Rattle.disk_model.specs.Grew.{OnlyGrew}
 use Rattle.disk_model.proofs.Grew.{image_front}
-use Rattle.frame_codec.specs.Frame.{Event, size_of, checksum_of, frame_of, limit, IsFrameAt}
+use Rattle.frame_codec.specs.Frame.{Event, size_of, frame_of, limit, IsFrameAt}
 use Rattle.frame_codec.specs.Chain.{chain_of, end_of, last_checksum, EndsWithin}
 use Rattle.frame_codec.proofs.FrameLemmas.{length-frame_of, one_event}
-use Rattle.frame_codec.proofs.ChainLemmas.{chain_of-nil, chain_of-cons, chain_of-append, end_of-append, last_checksum-append, length-chain_of, end_of-le}
-use Rattle.framed_file.specs.Framed.{IsPrefix, header_len, Reaches, IsFaithful, framed, HoldsFrames}
+use Rattle.frame_codec.proofs.ChainLemmas.{chain_of-nil, chain_of-cons, chain_of-append, end_of-append, length-chain_of, end_of-le}
+use Rattle.framed_file.specs.Framed.{IsPrefix, header_len, IsFaithful, framed, HoldsFrames}
 use Rattle.framed_file.proofs.PrefixLemmas.{prefix_refl, prefix_trans, prefix_push, starts_or_not}
 
 -- what stands in a first part of bytes stands in the bytes
@@ -45,23 +45,27 @@ module _ (IsHeader : List ℕ → ℕ → Type 0) (file : File) (image header : 
       omega (arith, length-append header (chain_of checksum header_len some), size, length-chain_of checksum header_len some) in
       ap (λ (l : List ℕ). drop (end some) l) split ∙ drop_at (header ++ chain_of checksum header_len some) (chain_of (sum some) (end some) tail) (end some) long
 
+  -- one frame more of an image
+  one_more : (some : List Event) (event : Event) (rest behind : List ℕ) → image ≡ framed header checksum some ++ rest → rest ≡ frame_of (sum some) (end some) event ++ behind
+      → image ≡ framed header checksum (some ++ event ∷ []) ++ behind
+  one_more some event rest behind is at =
+      is ∙ ap (λ (l : List ℕ). framed header checksum some ++ l) at
+      ∙ sym (append_assoc (framed header checksum some) (frame_of (sum some) (end some) event) behind)
+      ∙ ap (λ (l : List ℕ). l ++ behind) (append_assoc header (chain_of checksum header_len some) (frame_of (sum some) (end some) event)
+      ∙ ap (λ (l : List ℕ). header ++ l) (ap (λ (l : List ℕ). chain_of checksum header_len some ++ l) (sym (chain_of-cons (sum some) (end some) event []
+      ∙ ap (λ (l : List ℕ). frame_of (sum some) (end some) event ++ l) (chain_of-nil _ _) ∙ append-nil (frame_of (sum some) (end some) event)))
+      ∙ sym (chain_of-append checksum header_len some (event ∷ []))))
+
   -- a frame that stands in the image behind some of the frames stands in the whole file
   stands_in_whole : (some : List Event) (rest : List ℕ) (event : Event) → image ≡ framed header checksum some ++ rest
       → IsFrameAt (sum some) (end some) rest event
       → take (size_of event) (drop (end some) whole) ≡ frame_of (sum some) (end some) event
   stands_in_whole some rest event is at =
-      let joined : image ≡ header ++ chain_of checksum header_len (some ++ event ∷ []) ++ at.rest =
-      is ∙ ap (λ (l : List ℕ). framed header checksum some ++ l) at.stands
-      ∙ sym (append_assoc (framed header checksum some) (frame_of (sum some) (end some) event) at.rest)
-      ∙ ap (λ (l : List ℕ). l ++ at.rest) (append_assoc header (chain_of checksum header_len some) (frame_of (sum some) (end some) event)
-      ∙ ap (λ (l : List ℕ). header ++ l) (ap (λ (l : List ℕ). chain_of checksum header_len some ++ l) (sym (chain_of-cons (sum some) (end some) event []
-      ∙ ap (λ (l : List ℕ). frame_of (sum some) (end some) event ++ l) (chain_of-nil _ _) ∙ append-nil (frame_of (sum some) (end some) event)))
-      ∙ sym (chain_of-append checksum header_len some (event ∷ [])))) in
       let found = faithful.frames_meant header checksum some event (record {
         is_header = is_header;
         ends = omega (arith, end_of-append header_len some (event ∷ []), at.ends);
         rest = at.rest;
-        stands = joined;
+        stands = one_more some event rest at.rest is at.stands;
       }) in
       let long = length-frame_of (sum some) (end some) event in
       let there : take (length (frame_of (sum some) (end some) event)) (drop (end some) found.0) ≡ frame_of (sum some) (end some) event =
@@ -86,6 +90,33 @@ module _ (IsHeader : List ℕ → ℕ → Type 0) (file : File) (image header : 
       let one = one_event (sum some) (end some) e event _ _ fits at.ends (sym (chain_of-cons (sum some) (end some) e more) ∙ sym here ∙ parted) in
       (more, ap (λ (x : Event). x ∷ more) one.0)
 
+  -- where the next of the file's frames does not stand, no other does
+  held_all : (some : List Event) (e : Event) (more : List Event) (rest : List ℕ) → all ≡ some ++ e ∷ more → image ≡ framed header checksum some ++ rest
+      → (IsPrefix (frame_of (sum some) (end some) e) rest → ⊥) → HoldsFrames header checksum some all image
+  held_all some e more rest all_is is not = record {
+    events = some;
+    rest = rest;
+    stands = is;
+    at_least = prefix_refl some;
+    at_most = (e ∷ more, all_is);
+    no_more = λ event at.
+        let next = is_next some (e ∷ more) rest event all_is is at in
+        let list = next.1 in
+        let same : event ≡ e = cc in
+        not (at.rest, at.stands ∙ ap (λ (x : Event). frame_of (sum some) (end some) x ++ at.rest) same);
+  }
+
+  -- what holds one frame more holds those before it
+  held_more : (some : List Event) (e : Event) → HoldsFrames header checksum (some ++ e ∷ []) all image → HoldsFrames header checksum some all image
+  held_more some e held = record {
+    events = held.events;
+    rest = held.rest;
+    stands = held.stands;
+    at_least = prefix_trans some (some ++ e ∷ []) held.events (prefix_push some e) held.at_least;
+    at_most = held.at_most;
+    no_more = held.no_more;
+  }
+
   -- the frames of the image, from some of them on
   held_from : (some tail : List Event) (rest : List ℕ) → all ≡ some ++ tail → image ≡ framed header checksum some ++ rest
       → HoldsFrames header checksum some all image
@@ -98,44 +129,8 @@ module _ (IsHeader : List ℕ → ℕ → Type 0) (file : File) (image header : 
     no_more = λ event at. let next = is_next some [] rest event all_is is at in let e = next.1 in cc;
   }
   held_from some (e ∷ more) rest all_is is = ⊎_elim
-      (λ at. goes_on (held_from (some ++ e ∷ []) more at.0 next_all (next_is at.0 at.1)))
-      stops (starts_or_not (frame_of (sum some) (end some) e) rest)
-    where
-      next_all : all ≡ (some ++ e ∷ []) ++ more
-      next_all = all_is ∙ sym (append_assoc some (e ∷ []) more)
-
-      next_is : (rest' : List ℕ) → rest ≡ frame_of (sum some) (end some) e ++ rest' → image ≡ framed header checksum (some ++ e ∷ []) ++ rest'
-      next_is rest' at =
-          is ∙ ap (λ (l : List ℕ). framed header checksum some ++ l) at
-          ∙ sym (append_assoc (framed header checksum some) (frame_of (sum some) (end some) e) rest')
-          ∙ ap (λ (l : List ℕ). l ++ rest') (append_assoc header (chain_of checksum header_len some) (frame_of (sum some) (end some) e)
-          ∙ ap (λ (l : List ℕ). header ++ l) (ap (λ (l : List ℕ). chain_of checksum header_len some ++ l) (sym (chain_of-cons (sum some) (end some) e []
-          ∙ ap (λ (l : List ℕ). frame_of (sum some) (end some) e ++ l) (chain_of-nil _ _) ∙ append-nil (frame_of (sum some) (end some) e)))
-          ∙ sym (chain_of-append checksum header_len some (e ∷ []))))
-
-      goes_on : HoldsFrames header checksum (some ++ e ∷ []) all image → HoldsFrames header checksum some all image
-      goes_on held = record {
-        events = held.events;
-        rest = held.rest;
-        stands = held.stands;
-        at_least = prefix_trans some (some ++ e ∷ []) held.events (prefix_push some e) held.at_least;
-        at_most = held.at_most;
-        no_more = held.no_more;
-      }
-
-      stops : (IsPrefix (frame_of (sum some) (end some) e) rest → ⊥) → HoldsFrames header checksum some all image
-      stops not = record {
-        events = some;
-        rest = rest;
-        stands = is;
-        at_least = prefix_refl some;
-        at_most = (e ∷ more, all_is);
-        no_more = λ event at.
-            let next = is_next some (e ∷ more) rest event all_is is at in
-            let list = next.1 in
-            let same : event ≡ e = cc in
-            not (at.rest, at.stands ∙ ap (λ (x : Event). frame_of (sum some) (end some) x ++ at.rest) same);
-      }
+      (λ at. held_more some e (held_from (some ++ e ∷ []) more at.0 (all_is ∙ sym (append_assoc some (e ∷ []) more)) (one_more some e rest at.0 is at.1)))
+      (held_all some e more rest all_is is) (starts_or_not (frame_of (sum some) (end some) e) rest)
 
 -- A faithful image has all frames that were synced, and of the rest a first part.
 pub frames_held : (IsHeader : List ℕ → ℕ → Type 0) (file : File) (header : List ℕ) (checksum : ℕ) (low all : List Event)

@@ -1,6 +1,6 @@
 -- Which crash images of a file of chained frames are faithful, and what such an image holds. (This project.)
-use Rattle.std.specs.Prelude.{◌≡◌, ◌≤◌, ◌+◌, ℕ, List, [], ◌∷◌, ◌++◌, length, take, drop}
-use Rattle.disk_model.specs.File.{File, IsMeant, IsImage}
+use Rattle.std.specs.Prelude.{◌≡◌, ℕ, List, [], ◌∷◌, ◌++◌, take, drop}
+use Rattle.disk_model.specs.File.{File, IsMeant}
 use Rattle.frame_codec.specs.Frame.{Event, size_of, frame_of, IsFrameAt}
 use Rattle.frame_codec.specs.Chain.{chain_of, end_of, last_checksum, EndsWithin}
 

@@ -20,7 +20,7 @@ use Rattle.plugd.specs.Play.{State}
 use Rattle.plugd.specs.declared.run.Status.{Status}
 use Rattle.plugd.specs.Run.{IsBase, IsPlay, Begins, Ended}
 use Rattle.plugd.specs.Serve.{Base, Serving}
-use Rattle.plugd.specs.Session.{World, Reading}
+use Rattle.plugd.specs.Session.{World, world, Reading}
 use Rattle.plugd.specs.Xids.{xids_of}
 use Rattle.plugd.specs.XidSet.{Knows}
 use Rattle.plugd.proofs.LineLemmas.{splits_none}
@@ -95,7 +95,7 @@ serving limit session start end found small new goes told = record {
     safe = λ yes. ([], (told yes).0);
   };
   shows = record { line = new.lines; serves = λ is. refl; halts = λ is none. let no = new.halted in cc; count = λ none. refl; len = λ none. refl };
-  rest = λ yes none. ([], (told yes).0, (told yes).1);
+  rest = λ yes none. (told yes).1;
 }
 
 by_told : (b : Bool) (P : Type 0) → (b ≡ true → P) → (b ≡ false → P) → P
@@ -132,7 +132,7 @@ begins limit old session start end cut small none new goes opened run = record {
 
 -- it has read nothing yet
 pub fresh : (base : Base) (start : World) (disk : Disk) (session : Session) → Serving base [] [] session.server disk → session.front.items ≡ [] → session.replies.items ≡ []
-    → Reading base start [] session (record { disk = disk; left = start.left; held = start.held; source_faults = start.source_faults; sink_faults = start.sink_faults })
+    → Reading base start [] session (world disk start.left start.source_faults start.held start.sink_faults)
 fresh base start disk session serves front replies = record {
   spoken = [];
   standing = record { lines = []; rest = []; replies = []; splits = splits_none; front = front; serving = serves; texts = sym replies };
@@ -152,8 +152,8 @@ one_word (x ∷ []) word other bytes b low high at is from to =
     ((λ holds. ap (λ (l : List ℕ). l ∷ []) (sym same ∙ from holds)), (λ all. to (let e = all in let one : string_bytes x ≡ codes "play" = cc in same ∙ one)))
 
 -- the same run, over the same disk by another name
-pub other_start : (limit : ℕ) (words : List (String Global)) (d₀ d₁ : Disk) (left held : Option (List ℕ)) (source_faults sink_faults : ℕ) (answer : Status) (acks : List Ack) (end : World) → d₁ ≡ d₀
-    → Ended limit words (record { disk = d₁; left = left; held = held; source_faults = source_faults; sink_faults = sink_faults }) answer acks end
-    → Ended limit words (record { disk = d₀; left = left; held = held; source_faults = source_faults; sink_faults = sink_faults }) answer acks end
-other_start limit words d₀ d₁ left held source_faults sink_faults answer acks end same ran =
-    subst (λ (d : Disk). Ended limit words (record { disk = d; left = left; held = held; source_faults = source_faults; sink_faults = sink_faults }) answer acks end) same ran
+pub other_start : (limit : ℕ) (words : List (String Global)) (d₀ d₁ : Disk) (left : Option (List ℕ)) (source_faults : ℕ) (held : Option (List ℕ)) (sink_faults : ℕ) (answer : Status) (acks : List Ack) (end : World) → d₁ ≡ d₀
+    → Ended limit words (world d₁ left source_faults held sink_faults) answer acks end
+    → Ended limit words (world d₀ left source_faults held sink_faults) answer acks end
+other_start limit words d₀ d₁ left source_faults held sink_faults answer acks end same ran =
+    subst (λ (d : Disk). Ended limit words (world d left source_faults held sink_faults) answer acks end) same ran

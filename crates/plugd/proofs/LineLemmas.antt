@@ -78,7 +78,7 @@ open_none (z ∷ zs) rest (x ∷ xs) none is = let e = is in let tail : zs ++ re
 pub feed_ends : (xs : List ℕ) (lines : List (List ℕ)) (rest : List ℕ) → Splits (xs ++ 10 ∷ []) lines rest → rest ≡ []
 feed_ends xs lines rest is = open_none (joined lines) rest xs is.is_open (sym is.spelt)
 
-closing_some : (rest : List ℕ) → (rest ≡ [] → ⊥) → closing rest ≡ 13 ∷ 10 ∷ []
+pub closing_some : (rest : List ℕ) → (rest ≡ [] → ⊥) → closing rest ≡ 13 ∷ 10 ∷ []
 closing_some [] not = absurd (not refl)
 closing_some (x ∷ rest) not = refl
 
@@ -103,10 +103,14 @@ all_ended taken lines rest splits none = record {
     whole : Splits taken lines []
     whole = subst (λ (l : List ℕ). Splits taken lines l) none splits
 
--- the first lines of an input, where some of its bytes were taken
-pub first_of : (read taken others : List ℕ) (lines : List (List ℕ)) (more : List ℕ) → AreLines lines → taken ≡ joined lines ++ more → read ++ 13 ∷ 10 ∷ [] ≡ taken ++ others → AreFirst read lines
-first_of read taken others lines more are spelt part = record {
-  lines_are = are;
-  more = more ++ others;
-  spelt = part ∙ ap (λ (l : List ℕ). l ++ others) spelt ∙ append_assoc (joined lines) more others;
+-- first lines, and bytes that follow
+pub first_more : (taken others : List ℕ) (lines : List (List ℕ)) → AreFirst taken lines → AreFirst (taken ++ others) lines
+first_more taken others lines first = record {
+  lines_are = first.lines_are;
+  more = first.more ++ others;
+  spelt = ap (λ (l : List ℕ). l ++ others) first.spelt ∙ append_assoc (joined lines) first.more others;
 }
+
+-- all ended lines are first lines
+pub first_ended : (taken : List ℕ) (lines : List (List ℕ)) (rest : List ℕ) → Splits taken lines rest → AreFirst taken lines
+first_ended taken lines rest splits = record { lines_are = splits.lines_are; more = rest; spelt = splits.spelt }

@@ -11,12 +11,12 @@ use Rattle.plugd.specs.declared.play.Ending.{Ending}
 use Rattle.plugd.specs.declared.play.Ending.TheVariants.{SinkFailed, OutOfMemory}
 use Rattle.plugd.specs.declared.session.Session.{Session}
 use Rattle.plugd.proofs.ServeLemmas.{halts_of}
-use Rattle.plugd.proofs.LineLemmas.{all_closed, all_ended, take_none}
+use Rattle.plugd.proofs.LineLemmas.{all_closed, all_ended, take_none, closing_some, first_ended}
 use Rattle.plugd.specs.declared.server.Server.{Server}
 use Rattle.plugd.specs.Serve.{Base, Serving, Halts}
 use Rattle.std.specs.declared.alloc.AllocError.{AllocError}
 use Rattle.plugd.specs.Session.{Standing, Starved, Takes}
-use Rattle.plugd.specs.Piece.{Written, Broken, PlaysBytes, Closes}
+use Rattle.plugd.specs.Piece.{Written, wrote, Broken, PlaysBytes, Closes}
 
 -- the replies were written
 pub spoken_all : (base : Base) (taken spoken : List ℕ) (mid new : Session) (disk : Disk) → Standing base taken spoken mid disk → new.server ≡ mid.server → new.front ≡ mid.front → new.replies.items ≡ []
@@ -37,9 +37,7 @@ pub broken_sink : (base : Base) (taken spoken : List ℕ) (mid new : Session) (d
 broken_sink base taken spoken mid new disk w s server put rose = record {
   lines = s.lines;
   replies = s.replies;
-  lines_are = s.splits.lines_are;
-  more = s.rest;
-  spelt = s.splits.spelt;
+  first = first_ended taken s.lines s.rest s.splits;
   halts = subst (λ (v : Server). Halts base s.lines s.replies v disk) (sym server) (halts_of base s.lines s.replies mid.server disk s.serving);
   fresh = mid.replies.items;
   texts = s.texts;
@@ -53,9 +51,7 @@ pub broken_memory : (base : Base) (taken spoken : List ℕ) (mid new : Session) 
 broken_memory base taken spoken mid new disk w s server put = record {
   lines = s.lines;
   replies = s.replies;
-  lines_are = s.lines_are;
-  more = s.more;
-  spelt = s.spelt;
+  first = s.first;
   halts = subst (λ (v : Server). Halts base s.lines s.replies v disk) (sym server) s.halts;
   fresh = mid.replies.items ++ s.untold;
   texts = s.texts ∙ append_assoc spoken mid.replies.items s.untold;
@@ -117,16 +113,21 @@ closed old new result start end w some plays = record {
         n.lines,
         n.replies,
         so.0,
-        all_closed taken s.lines n.lines s.rest n.rest s.splits (λ none. omega (arith, some, ap length (s.front ∙ ap (λ (l : List ℕ). take 64 l) none))) n.splits,
+        all_closed taken s.lines n.lines s.rest n.rest s.splits (open_some s) n.splits,
         halts_of base n.lines n.replies new.server end n.serving,
         n.texts ∙ ap (λ (l : List ℕ). (spoken ++ so.0) ++ l) so.2 ∙ append-nil (spoken ++ so.0),
         so.3,
       );
-  err = plays.err;
+  err = λ base taken spoken s told ending is.
+      subst (λ (l : List ℕ). Broken base (taken ++ l) spoken ending new.server end w) (sym (closing_some s.rest (open_some s))) (plays.err base taken spoken s told ending is);
 }
+  where
+    -- the line that is open is not empty
+    open_some : {base : Base} {taken spoken : List ℕ} → (s : Standing base taken spoken old start) → s.rest ≡ [] → ⊥
+    open_some s none = omega (arith, some, ap length (s.front ∙ ap (λ (l : List ℕ). take 64 l) none))
 
 pub closed_none : (session : Session) (disk : Disk) (held : Option (List ℕ)) (faults : ℕ) → length session.front.items ≡ 0
-    → Closes session session (Ok tt) disk disk (record { before = held; after = held; faults = faults; faults_after = faults })
+    → Closes session session (Ok tt) disk disk (wrote held faults held faults)
 closed_none session disk held faults none = record {
   no_fewer = omega arith;
   ok = λ base taken spoken s told is. (

@@ -1,19 +1,20 @@
 -- How a run reads on, and how it ends.
-use Rattle.std.proofs.Common.{◌≡◌, ⊎_elim, ℕ, min, ◌+◌, ◌<◌, ◌≤◌, List, [], ◌∷◌, ◌++◌, length, take, drop, flat_map, Option, Some, Ok, Err, refl, sym, ◌∙◌, ap, subst, arith, append_assoc, length-append, take-append-drop}
-use Rattle.std.proofs.lemmas.List.{append-nil, take_at, length-take-le, take-take}
+use Rattle.std.proofs.Common.{◌≡◌, inl, inr, ⊎_elim, ℕ, min, ◌+◌, ◌-◌, ◌<◌, ◌≤◌, List, [], ◌++◌, length, take, drop, flat_map, Option, Some, Ok, Err, refl, sym, ◌∙◌, ap, subst, arith, append_assoc, length-append, take-append-drop}
+use Rattle.std.proofs.lemmas.List.{append-nil, take_at, length-take, length-take-le, take-take}
+use Rattle.std.proofs.Math.Seq.{take-append-add}
 use Rattle.fault_counts.specs.Rose.{Rose}
 use Rattle.disk_model.specs.Disk.{Disk}
 use Rattle.outer_io.specs.Ends.{Took, Put, PutFront}
 use Rattle.plugd.specs.declared.play.Ending.{Ending}
 use Rattle.plugd.specs.declared.play.Ending.TheVariants.{EndOfInput, SourceFailed, TooLong}
 use Rattle.plugd.specs.declared.session.Session.{Session}
-use Rattle.plugd.specs.Lines.{Splits, AreFirst}
+use Rattle.plugd.specs.Lines.{Splits, closing, AreFirst}
 use Rattle.plugd.specs.Reply.{text_of}
 use Rattle.plugd.specs.Serve.{Base}
-use Rattle.plugd.specs.Session.{input_limit, World, FaultsGoOn, Reading, Ends}
+use Rattle.plugd.specs.Session.{input_limit, World, world, FaultsGoOn, Reading, IsEnd, AreSome, Ends}
 use Rattle.plugd.specs.Piece.{Written, Broken, PlaysBytes, Closes, PlaysPiece}
 use Rattle.plugd.proofs.ServeLemmas.{halts_of}
-use Rattle.plugd.proofs.LineLemmas.{first_of}
+use Rattle.plugd.proofs.LineLemmas.{first_more}
 
 took_more : (xs ys : List ℕ) (a b c : Option (List ℕ)) → Took xs a b → Took ys b c → Took (xs ++ ys) a c
 took_more xs ys a b c first second = record {
@@ -41,7 +42,7 @@ spoken_are base start taken session w r =
 -- a read failed
 pub source_failed : (room : ℕ) (base : Base) (start : World) (taken : List ℕ) (session : Session) (w : World) (left : Option (List ℕ)) (faults : ℕ) → Reading base start taken session w → length taken + room ≡ input_limit
     → left ≡ w.left → Rose w.source_faults faults → w.source_faults ≤ faults
-    → Ends base start SourceFailed session.server (record { disk = w.disk; left = left; held = w.held; source_faults = faults; sink_faults = w.sink_faults })
+    → Ends base start SourceFailed session.server (world w.disk left faults w.held w.sink_faults)
 source_failed room base start taken session w left faults r full same rose more = record {
   read = taken;
   lines = r.standing.lines;
@@ -54,10 +55,18 @@ source_failed room base start taken session w left faults r full same rose more 
   faults = record { source = let before = r.faults.source in omega (arith, before, more); sink = r.faults.sink };
 }
 
+-- nothing was left where a read gave nothing
+at_end : (base : Base) (start : World) (taken : List ℕ) (session : Session) (w : World) (left : Option (List ℕ)) → Reading base start taken session w → Took [] w.left left
+    → ((xs : List ℕ) → w.left ≡ Some xs → xs ≡ []) → IsEnd start.left left
+at_end base start taken session w left r took none xs is =
+    let one = r.took.told xs is in
+    let two = took.told one.0 one.1 in
+    two.1 ∙ ap (λ (l : List ℕ). Some l) (sym two.2 ∙ none one.0 one.1)
+
 -- the input came to its end
 pub input_ended : (room : ℕ) (base : Base) (start : World) (taken : List ℕ) (old new : Session) (w : World) (left : Option (List ℕ)) (faults : ℕ) (end : Disk) (written : Written) → Reading base start taken old w → length taken + room ≡ input_limit
     → Took [] w.left left → w.source_faults ≤ faults → ((xs : List ℕ) → w.left ≡ Some xs → xs ≡ []) → Closes old new (Ok tt) w.disk end written → written.before ≡ w.held → written.faults ≡ w.sink_faults
-    → Ends base start EndOfInput new.server (record { disk = end; left = left; held = written.after; source_faults = faults; sink_faults = written.faults_after })
+    → Ends base start EndOfInput new.server (world end left faults written.after written.faults_after)
 input_ended room base start taken old new w left faults end written r full took more none closes held sink =
     let so = closes.ok base taken r.spoken r.standing r.all_told refl in
     record {
@@ -68,20 +77,17 @@ input_ended room base start taken old new w left faults end written r full took 
       played = (omega (arith, full), so.3);
       halts = so.4;
       told = subst (λ (l : List ℕ). Put l start.held written.after) (sym so.5) (puts_more r.spoken so.2 start.held w.held written.after r.put (subst (λ (h : Option (List ℕ)). Put so.2 h written.after) held so.6));
-      reason = λ xs is.
-          let one = r.took.told xs is in
-          let two = took.told one.0 one.1 in
-          two.1 ∙ ap (λ (l : List ℕ). Some l) (sym two.2 ∙ none one.0 one.1);
+      reason = at_end base start taken old w left r took none;
       faults = record { source = let before = r.faults.source in omega (arith, before, more); sink = let before = r.faults.sink in let step = closes.no_fewer in omega (arith, before, step, sink) };
     }
 
 -- the sink failed, or there was no memory
-pub broken_ends : (base : Base) (start : World) (taken read played others : List ℕ) (old new : Session) (ending : Ending) (w : World) (left : Option (List ℕ)) (faults : ℕ) (end : Disk) (written : Written) → (r : Reading base start taken old w)
-    → Took read start.left left → w.source_faults ≤ faults → Broken base played r.spoken ending new.server end written → read ++ 13 ∷ 10 ∷ [] ≡ played ++ others
+pub broken_ends : (base : Base) (start : World) (taken read played : List ℕ) (old new : Session) (ending : Ending) (w : World) (left : Option (List ℕ)) (faults : ℕ) (end : Disk) (written : Written) → (r : Reading base start taken old w)
+    → Took read start.left left → w.source_faults ≤ faults → Broken base played r.spoken ending new.server end written → ((lines : List (List ℕ)) → AreFirst played lines → AreSome start.left left read lines)
     → written.before ≡ w.held → written.faults ≡ w.sink_faults → written.faults ≤ written.faults_after
-    → Ends base start ending new.server (record { disk = end; left = left; held = written.after; source_faults = faults; sink_faults = written.faults_after })
-broken_ends base start taken read played others old new ending w left faults end written r took more broken part held sink step =
-    ⊎_elim (λ sinks. subst (λ (e : Ending). Ends base start e new.server world) (sym sinks.0) (record {
+    → Ends base start ending new.server (world end left faults written.after written.faults_after)
+broken_ends base start taken read played old new ending w left faults end written r took more broken some held sink step =
+    ⊎_elim (λ sinks. subst (λ (e : Ending). Ends base start e new.server after) (sym sinks.0) (record {
       read = read;
       lines = broken.lines;
       replies = broken.replies;
@@ -92,7 +98,7 @@ broken_ends base start taken read played others old new ending w left faults end
       reason = let before = r.faults.sink in let rose = sinks.1 in omega (arith, before, rose, sink);
       faults = faults_on;
     }))
-    (λ memory. subst (λ (e : Ending). Ends base start e new.server world) (sym memory) (record {
+    (λ memory. subst (λ (e : Ending). Ends base start e new.server after) (sym memory) (record {
       read = read;
       lines = broken.lines;
       replies = broken.replies;
@@ -104,23 +110,23 @@ broken_ends base start taken read played others old new ending w left faults end
       faults = faults_on;
     })) broken.reason
   where
-    world : World
-    world = record { disk = end; left = left; held = written.after; source_faults = faults; sink_faults = written.faults_after }
+    after : World
+    after = world end left faults written.after written.faults_after
 
-    first : AreFirst read broken.lines
-    first = first_of read played others broken.lines broken.more broken.lines_are broken.spelt part
+    first : AreSome start.left left read broken.lines
+    first = some broken.lines broken.first
 
     told : PutFront (flat_map text_of broken.replies) start.held written.after
     told = subst (λ (l : List ℕ). PutFront l start.held written.after) (sym broken.texts)
         (fronts_more r.spoken broken.fresh start.held w.held written.after r.put (subst (λ (h : Option (List ℕ)). PutFront broken.fresh h written.after) held broken.put))
 
-    faults_on : FaultsGoOn start world
+    faults_on : FaultsGoOn start after
     faults_on = record { source = let before = r.faults.source in omega (arith, before, more); sink = let before = r.faults.sink in omega (arith, before, step, sink) }
 
 -- the piece was played
 pub reads_on : (base : Base) (start : World) (taken bytes : List ℕ) (old new : Session) (w : World) (left : Option (List ℕ)) (faults : ℕ) (end : Disk) (written : Written) → Reading base start taken old w
     → Took bytes w.left left → w.source_faults ≤ faults → PlaysBytes bytes old new (Ok tt) w.disk end written → written.before ≡ w.held → written.faults ≡ w.sink_faults
-    → Reading base start (taken ++ bytes) new (record { disk = end; left = left; held = written.after; source_faults = faults; sink_faults = written.faults_after })
+    → Reading base start (taken ++ bytes) new (world end left faults written.after written.faults_after)
 reads_on base start taken bytes old new w left faults end written r took more plays held sink =
     let so = plays.ok base taken r.spoken r.standing r.all_told refl in
     record {
@@ -136,7 +142,7 @@ reads_on base start taken bytes old new w left faults end written r took more pl
 pub too_long : (base : Base) (start : World) (taken bytes others : List ℕ) (old new : Session) (w : World) (left : Option (List ℕ)) (faults : ℕ) (end : Disk) (written : Written) → Reading base start taken old w
     → Took (bytes ++ others) w.left left → w.source_faults ≤ faults → PlaysBytes bytes old new (Ok tt) w.disk end written → written.before ≡ w.held → written.faults ≡ w.sink_faults
     → length taken + length bytes ≡ input_limit → 0 < length others
-    → Ends base start TooLong new.server (record { disk = end; left = left; held = written.after; source_faults = faults; sink_faults = written.faults_after })
+    → Ends base start TooLong new.server (world end left faults written.after written.faults_after)
 too_long base start taken bytes others old new w left faults end written r took more plays held sink full some =
     let so = plays.ok base taken r.spoken r.standing r.all_told refl in
     let n = so.1 in
@@ -184,32 +190,45 @@ nothing_read buf n a b none took = subst (λ (m : ℕ). Took (take m buf) a b) n
 pub first_bytes : (buf : List ℕ) (n kept : ℕ) → kept ≤ n → take n buf ≡ take kept buf ++ drop kept (take n buf)
 first_bytes buf n kept le = sym (take-append-drop kept (take n buf)) ∙ ap (λ (l : List ℕ). l ++ drop kept (take n buf)) (take-take kept n buf le)
 
-pub part_of_read : (taken kept others : List ℕ) → (taken ++ (kept ++ others)) ++ 13 ∷ 10 ∷ [] ≡ (taken ++ kept) ++ (others ++ 13 ∷ 10 ∷ [])
-part_of_read taken kept others = ap (λ (l : List ℕ). l ++ 13 ∷ 10 ∷ []) (sym (append_assoc taken kept others)) ∙ append_assoc (taken ++ kept) others (13 ∷ 10 ∷ [])
+-- what was read up to the limit begins with what was played, which is no longer
+up_to_limit : (old new : Option (List ℕ)) (played others : List ℕ) (lines : List (List ℕ)) → length played ≤ input_limit → AreFirst played lines → AreSome old new (played ++ others) lines
+up_to_limit old new played others lines short first =
+    let rest = input_limit - length played in
+    let size : length played + rest ≡ input_limit = omega (arith, short) in
+    inl (subst (λ (l : List ℕ). AreFirst l lines) (sym (take-append-add played others rest) ∙ ap (λ (n : ℕ). take n (played ++ others)) size) (first_more played (take rest others) lines first))
 
 -- it broke in the middle of a piece
-pub broken_piece : (base : Base) (start : World) (taken buf : List ℕ) (n kept : ℕ) (old new : Session) (ending : Ending) (w : World) (left : Option (List ℕ)) (faults : ℕ) (end : Disk) (written : Written) → (r : Reading base start taken old w)
-    → kept ≤ n → Took (take n buf) w.left left → w.source_faults ≤ faults → PlaysBytes (take kept buf) old new (Err ending) w.disk end written → written.before ≡ w.held → written.faults ≡ w.sink_faults
-    → Ends base start ending new.server (record { disk = end; left = left; held = written.after; source_faults = faults; sink_faults = written.faults_after })
-broken_piece base start taken buf n kept old new ending w left faults end written r le took more plays held sink =
-    broken_ends base start taken (taken ++ (take kept buf ++ drop kept (take n buf))) (taken ++ take kept buf) (drop kept (take n buf) ++ 13 ∷ 10 ∷ []) old new ending w left faults end written r
-    (took_more taken (take kept buf ++ drop kept (take n buf)) start.left w.left left r.took (subst (λ (l : List ℕ). Took l w.left left) (first_bytes buf n kept le) took))
-    more (plays.err base taken r.spoken r.standing r.all_told ending refl) (part_of_read taken (take kept buf) (drop kept (take n buf))) held sink plays.no_fewer
+pub broken_piece : (room : ℕ) (base : Base) (start : World) (taken buf : List ℕ) (n kept : ℕ) (old new : Session) (ending : Ending) (w : World) (left : Option (List ℕ)) (faults : ℕ) (end : Disk) (written : Written) → (r : Reading base start taken old w)
+    → length taken + room ≡ input_limit → kept ≤ room → kept ≤ n → Took (take n buf) w.left left → w.source_faults ≤ faults → PlaysBytes (take kept buf) old new (Err ending) w.disk end written → written.before ≡ w.held → written.faults ≡ w.sink_faults
+    → Ends base start ending new.server (world end left faults written.after written.faults_after)
+broken_piece room base start taken buf n kept old new ending w left faults end written r full fits le took more plays held sink =
+    broken_ends base start taken (played ++ others) played old new ending w left faults end written r
+    (subst (λ (l : List ℕ). Took l start.left left) (ap (λ (l : List ℕ). taken ++ l) (first_bytes buf n kept le) ∙ sym (append_assoc taken (take kept buf) others)) (took_more taken (take n buf) start.left w.left left r.took took))
+    more (plays.err base taken r.spoken r.standing r.all_told ending refl)
+    (λ lines first. up_to_limit start.left left played others lines (omega (arith, full, fits, length-append taken (take kept buf), length-take kept buf)) first) held sink plays.no_fewer
+  where
+    played : List ℕ
+    played = taken ++ take kept buf
+
+    others : List ℕ
+    others = drop kept (take n buf)
 
 -- it broke at the open line
-pub broken_close : (base : Base) (start : World) (taken : List ℕ) (old new : Session) (ending : Ending) (w : World) (left : Option (List ℕ)) (faults : ℕ) (end : Disk) (written : Written) → (r : Reading base start taken old w)
-    → Took [] w.left left → w.source_faults ≤ faults → Closes old new (Err ending) w.disk end written → written.before ≡ w.held → written.faults ≡ w.sink_faults
-    → Ends base start ending new.server (record { disk = end; left = left; held = written.after; source_faults = faults; sink_faults = written.faults_after })
-broken_close base start taken old new ending w left faults end written r took more closes held sink =
-    broken_ends base start taken taken (taken ++ 13 ∷ 10 ∷ []) [] old new ending w left faults end written r
+pub broken_close : (room : ℕ) (base : Base) (start : World) (taken : List ℕ) (old new : Session) (ending : Ending) (w : World) (left : Option (List ℕ)) (faults : ℕ) (end : Disk) (written : Written) → (r : Reading base start taken old w)
+    → length taken + room ≡ input_limit → Took [] w.left left → w.source_faults ≤ faults → ((xs : List ℕ) → w.left ≡ Some xs → xs ≡ []) → Closes old new (Err ending) w.disk end written → written.before ≡ w.held → written.faults ≡ w.sink_faults
+    → Ends base start ending new.server (world end left faults written.after written.faults_after)
+broken_close room base start taken old new ending w left faults end written r full took more none closes held sink =
+    let s = r.standing in
+    broken_ends base start taken taken (taken ++ closing s.rest) old new ending w left faults end written r
     (subst (λ (l : List ℕ). Took l start.left left) (append-nil taken) (took_more taken [] start.left w.left left r.took took))
-    more (closes.err base taken r.spoken r.standing r.all_told ending refl) (sym (append-nil (taken ++ 13 ∷ 10 ∷ []))) held sink closes.no_fewer
+    more (closes.err base taken r.spoken s r.all_told ending refl)
+    (λ lines first. inr (at_end base start taken old w left r took none, omega (arith, full), record { ended = s.lines; rest = s.rest; splits = s.splits; first = first })) held sink closes.no_fewer
 
 -- the input is too long, in a piece
 pub long_piece : (base : Base) (start : World) (taken buf : List ℕ) (n kept room : ℕ) (old new : Session) (w : World) (left : Option (List ℕ)) (faults : ℕ) (end : Disk) (written : Written) → Reading base start taken old w
     → kept < n → kept ≡ min n room → n ≤ length buf → Took (take n buf) w.left left → w.source_faults ≤ faults → PlaysBytes (take kept buf) old new (Ok tt) w.disk end written → written.before ≡ w.held → written.faults ≡ w.sink_faults
     → length taken + room ≡ input_limit
-    → Ends base start TooLong new.server (record { disk = end; left = left; held = written.after; source_faults = faults; sink_faults = written.faults_after })
+    → Ends base start TooLong new.server (world end left faults written.after written.faults_after)
 long_piece base start taken buf n kept room old new w left faults end written r lt is fits took more plays held sink full =
     let all = length-take-le n buf fits in
     let front = length-take-le kept buf (omega (arith, lt, fits)) in
@@ -220,6 +239,6 @@ long_piece base start taken buf n kept room old new w left faults end written r 
 -- the piece was played whole
 pub reads_piece : (base : Base) (start : World) (taken buf : List ℕ) (n kept : ℕ) (old new : Session) (w : World) (left : Option (List ℕ)) (faults : ℕ) (end : Disk) (written : Written) → Reading base start taken old w
     → kept ≡ n → Took (take n buf) w.left left → w.source_faults ≤ faults → PlaysBytes (take kept buf) old new (Ok tt) w.disk end written → written.before ≡ w.held → written.faults ≡ w.sink_faults
-    → Reading base start (taken ++ take n buf) new (record { disk = end; left = left; held = written.after; source_faults = faults; sink_faults = written.faults_after })
+    → Reading base start (taken ++ take n buf) new (world end left faults written.after written.faults_after)
 reads_piece base start taken buf n kept old new w left faults end written r same took more plays held sink =
     reads_on base start taken (take n buf) old new w left faults end written r took more (subst (λ (k : ℕ). PlaysBytes (take k buf) old new (Ok tt) w.disk end written) same plays) held sink

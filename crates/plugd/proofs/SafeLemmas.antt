@@ -41,6 +41,7 @@ kept_on : (all : List Transaction) (t : Transaction) (d₀ d₁ : Disk) (ack : A
 kept_on all t d₀ d₁ ack run is = record {
   count = omega (arith, is.count, length-append all (t ∷ []));
   in_time = omega (arith, is.in_time, run.later);
+  exactly = ap (λ (files : ℕ → File). (files 0).bytes) (run.past ack.call is.in_time) ∙ is.exactly ∙ ap log_of (sym same);
   kept = λ m low high. ⊎_elim
       (λ le. subst (λ (files : ℕ → File). Holds (take ack.number (all ++ t ∷ [])) (all ++ t ∷ []) (files 0)) (sym (run.past m le))
       (subst (λ (l : List Transaction). Holds l (all ++ t ∷ []) (d₀.at m 0)) (sym same) (more_high (take ack.number all) all (t ∷ []) (d₀.at m 0) (is.kept m low le))))
@@ -68,6 +69,7 @@ kept_now : (log : Binlog) (all : List Transaction) (disk : Disk) (ack : Ack) →
 kept_now log all disk ack durable number call = record {
   count = omega (arith, number);
   in_time = omega (arith, call);
+  exactly = ap (λ (k : ℕ). (disk.at k 0).bytes) call ∙ durable.is_log.bytes ∙ ap log_of (sym (take_all ack.number all (omega (arith, number))));
   kept = λ m low high.
       let here : disk.calls ≡ m = omega (arith, call, low, high) in
       subst (λ (k : ℕ). Holds (take ack.number all) all (disk.at k 0)) here

@@ -43,8 +43,8 @@ pub open_of : (server : Server) (disk : Disk) → IsServing server disk → serv
 open_of server disk is serves = record {
   stands = λ told.
       let s = is.3 in
-      let rest = s.rest (subst IsTrue s.stopped.told told) (s.shows.serves serves) in
-      ((is.0).found ++ rest.0, rest.2.durable.is_log);
+      let first = subst IsTrue s.stopped.told told in
+      ((is.0).found ++ (s.stopped.safe first).0, (s.rest first (s.shows.serves serves)).durable.is_log);
 }
 
 pub limit_of : (server : Server) (disk : Disk) → IsServing server disk → server.limit ≤ 2147483647
@@ -73,8 +73,7 @@ idle base lines replies old disk s line more turn none = record {
     safe = λ told. ((s.stopped.safe told).0, safe_same base.start base.found (s.stopped.safe told).0 s.state old.acks.items disk (s.stopped.safe told).1);
   };
   shows = record { line = ap (λ (n : ℕ). n + 1) s.shows.line; serves = s.shows.serves; halts = s.shows.halts; count = s.shows.count; len = s.shows.len };
-  rest = λ told serves. let r = s.rest told serves in
-      (r.0, safe_same base.start base.found r.0 s.state old.acks.items disk r.1, record { durable = r.2.durable; knows = r.2.knows });
+  rest = λ told serves. record { durable = (s.rest told serves).durable; knows = (s.rest told serves).knows };
 }
 
 -- for want of memory nothing more was done
@@ -139,7 +138,7 @@ logs_one base lines replies old new start end s line key text number asks serves
     count = λ none. (d.1).counted ∙ number_is;
     len = λ none. d.2 ∙ ap (λ (n : ℕ). n + insert_size text) (s.shows.len met);
   };
-  rest = λ told none. more told;
+  rest = λ told none. (more told).2;
 }
   where
     met : s.state.met ≡ None
@@ -162,13 +161,14 @@ logs_one base lines replies old new start end s line key text number asks serves
 
     more : IsTrue base.start.told → (asked : List Transaction) × Safe base.start base.found asked after new.acks.items end × AtRest new (base.found ++ asked) end
     more told =
+        let a = s.stopped.safe told in
         let r = s.rest told met in
-        let one = d.3 (base.found ++ r.0) (subst IsTrue (sym s.stopped.told) told) (record { durable = r.2.durable; knows = r.2.knows }) in
+        let one = d.3 (base.found ++ a.0) (subst IsTrue (sym s.stopped.told) told) (record { durable = r.durable; knows = r.knows }) in
         let t : Transaction = record { xid = one.0.xid; change = change.Insert key text } in
-        let same = append_assoc base.found r.0 (t ∷ []) in (
-          r.0 ++ t ∷ [],
-          subst (λ (l : List Ack). Safe base.start base.found (r.0 ++ t ∷ []) after l end) (sym (d.1).acks)
-              (safe_logged base.start base.found r.0 s.state old.acks.items start end t (s.state.line + 1) (s.state.len + insert_size text) new.log ack r.1 met one.0.next one.0.moments one.1.durable number_is refl),
+        let same = append_assoc base.found a.0 (t ∷ []) in (
+          a.0 ++ t ∷ [],
+          subst (λ (l : List Ack). Safe base.start base.found (a.0 ++ t ∷ []) after l end) (sym (d.1).acks)
+              (safe_logged base.start base.found a.0 s.state old.acks.items start end t (s.state.line + 1) (s.state.len + insert_size text) new.log ack a.1 met one.0.next one.0.moments one.1.durable number_is refl),
           subst (λ (l : List Transaction). AtRest new l end) same one.1,
         )
 
@@ -213,12 +213,13 @@ fails_at base lines replies old new start end s line key text asks serves commit
 
     safe : IsTrue base.start.told → (asked : List Transaction) × Safe base.start base.found asked after new.acks.items end
     safe told =
+        let a = s.stopped.safe told in
         let r = s.rest told met in
-        let one = h.4 (base.found ++ r.0) (subst IsTrue (sym s.stopped.told) told) (record { durable = r.2.durable; knows = r.2.knows }) in
+        let one = h.4 (base.found ++ a.0) (subst IsTrue (sym s.stopped.told) told) (record { durable = r.durable; knows = r.knows }) in
         let t : Transaction = record { xid = one.xid; change = change.Insert key text } in (
-          r.0 ++ t ∷ [],
-          subst (λ (l : List Ack). Safe base.start base.found (r.0 ++ t ∷ []) after l end) (sym h.2)
-              (safe_halted base.start base.found r.0 s.state old.acks.items start end t (s.state.line + 1) r.1 met one.next one.moments),
+          a.0 ++ t ∷ [],
+          subst (λ (l : List Ack). Safe base.start base.found (a.0 ++ t ∷ []) after l end) (sym h.2)
+              (safe_halted base.start base.found a.0 s.state old.acks.items start end t (s.state.line + 1) a.1 met one.next one.moments),
         )
 
 -- an insert, whatever came of it

@@ -7,12 +7,11 @@ use Rattle.std.proofs.lemmas.Grind.{flat_map-append, take_at_read}
 use Rattle.disk_model.specs.Disk.{Disk}
 use Rattle.plugd.specs.declared.reply.Reply.{Reply}
 use Rattle.plugd.specs.declared.session.Session.{Session}
-use Rattle.plugd.specs.Lines.{joined}
 use Rattle.plugd.specs.Reply.{text_of}
 use Rattle.plugd.specs.Serve.{Base, Serving, IsServing, Halts}
 use Rattle.plugd.specs.Session.{Standing, Starved, IsStanding, Takes}
 use Rattle.plugd.proofs.ServeLemmas.{halts_of}
-use Rattle.plugd.proofs.LineLemmas.{splits_byte, splits_feed, splits_few}
+use Rattle.plugd.proofs.LineLemmas.{splits_byte, splits_feed, splits_few, first_more, first_ended}
 
 -- the server of a session that stands
 pub serving_of : (session : Session) (disk : Disk) (room : ℕ) → IsStanding session disk room → IsServing session.server disk
@@ -76,9 +75,7 @@ line_untold base taken spoken old new start end s more serving same =
     let splits = splits_feed taken s.lines s.rest s.splits in record {
       lines = s.lines ++ s.rest ∷ [];
       replies = s.replies ++ option_to_list more;
-      lines_are = splits.lines_are;
-      more = [];
-      spelt = splits.spelt;
+      first = first_ended (taken ++ 10 ∷ []) (s.lines ++ s.rest ∷ []) [] splits;
       halts = halts_of base (s.lines ++ s.rest ∷ []) (s.replies ++ option_to_list more) new.server end serving;
       untold = flat_map text_of (option_to_list more);
       texts = flat_map-append text_of s.replies (option_to_list more) ∙ ap (λ (l : List ℕ). l ++ flat_map text_of (option_to_list more)) (s.texts ∙ ap (λ (l : List ℕ). spoken ++ l) (sym same));
@@ -90,9 +87,7 @@ pub starved_at : (base : Base) (taken spoken : List ℕ) (old new : Session) (st
 starved_at base taken spoken old new start end s byte halts same = record {
   lines = s.lines;
   replies = s.replies;
-  lines_are = s.splits.lines_are;
-  more = s.rest ++ byte ∷ [];
-  spelt = ap (λ (l : List ℕ). l ++ byte ∷ []) s.splits.spelt ∙ append_assoc (joined s.lines) s.rest (byte ∷ []);
+  first = first_more taken (byte ∷ []) s.lines (first_ended taken s.lines s.rest s.splits);
   halts = halts;
   untold = [];
   texts = s.texts ∙ ap (λ (l : List ℕ). spoken ++ l) (sym same) ∙ sym (append-nil (spoken ++ new.replies.items));
@@ -116,9 +111,7 @@ pub starved_more : (base : Base) (taken more spoken : List ℕ) (session : Sessi
 starved_more base taken more spoken session disk s = record {
   lines = s.lines;
   replies = s.replies;
-  lines_are = s.lines_are;
-  more = s.more ++ more;
-  spelt = ap (λ (l : List ℕ). l ++ more) s.spelt ∙ append_assoc (joined s.lines) s.more more;
+  first = first_more taken more s.lines s.first;
   halts = s.halts;
   untold = s.untold;
   texts = s.texts;

@@ -6,11 +6,11 @@ use Rattle.disk_model.specs.Disk.{Disk, now, Keeps, Only}
 use Rattle.binlog_file.specs.declared.transaction.Change.TheVariants as change
 use Rattle.binlog_file.specs.declared.transaction.Transaction.{Transaction}
 use Rattle.binlog_file.specs.Logged.{Holds}
-use Rattle.binlog_file.specs.Binlog.{flushed_of, end_in, Carries}
+use Rattle.binlog_file.specs.Binlog.{flushed_of, end_in}
 use Rattle.plugd.specs.declared.reply.Reply.{Reply}
 use Rattle.plugd.specs.declared.reply.Reply.TheVariants.{Done, LogSpent, Halted, BadLine}
 use Rattle.plugd.specs.declared.server.Server.{Server}
-use Rattle.plugd.specs.LogOne.{IsDurable}
+use Rattle.plugd.specs.LogOne.{IsDurable, EachOne}
 use Rattle.plugd.specs.Play.{insert_size}
 use Rattle.plugd.specs.Xids.{xids_of, IsNextXid}
 use Rattle.plugd.specs.XidSet.{Knows}
@@ -45,11 +45,9 @@ pub record Writes (old new : Server) (reply : Reply) (start end : Disk) : Type 0
   pub xids : new.xids ≡ old.xids
   pub done : (number : ℕ) → reply ≡ Done number → Acknowledges old new number end
       × (end_in new.log ≡ end_in old.log + length old.spelling.items)
-      × ((list : List Transaction) (t : Transaction) → IsTrue start.told → Carries old.log old.spelling.items (t ∷ []) → IsDurable old.log list start
-      → IsDurable new.log (list ++ t ∷ []) end)
+      × EachOne old.log old.spelling.items start (λ list t. IsDurable new.log (list ++ t ∷ []) end)
   pub halted : reply ≡ Halted → (new.halted ≡ true) × (new.acks.items ≡ old.acks.items) × Rose start.faults end.faults
-  pub moments : (list : List Transaction) (t : Transaction) → IsTrue start.told → Carries old.log old.spelling.items (t ∷ []) → IsDurable old.log list start
-      → Keeps start end (Only 0 (now start) (Holds list (list ++ t ∷ [])))
+  pub moments : EachOne old.log old.spelling.items start (λ list t. Keeps start end (Only 0 (now start) (Holds list (list ++ t ∷ []))))
   pub not_spent : reply ≡ LogSpent → ⊥
   pub not_bad : (line : ℕ) → reply ≡ BadLine line → ⊥
 

@@ -4,7 +4,7 @@ use Rattle.disk_model.specs.File.{File, IsImage}
 use Rattle.disk_model.specs.Disk.{Disk, now, contents, Keeps, Only}
 use Rattle.framed_file.specs.Framed.{IsFaithful}
 use Rattle.binlog_file.specs.declared.transaction.Transaction.{Transaction}
-use Rattle.binlog_file.specs.Logged.{IsLogHeader, IsLogged, Holds}
+use Rattle.binlog_file.specs.Logged.{IsLogHeader, log_of, IsLogged, Holds}
 use Rattle.plugd.specs.declared.ack.Ack.{Ack}
 use Rattle.plugd.specs.Xids.{xids_of, AreGiven, AreDistinct}
 use Rattle.plugd.specs.Play.{State}
@@ -32,10 +32,12 @@ StaysRecoverable start end = IsTrue start.told → IsRecoverableVolume start →
 abbrev pub StandsIn : File → List Transaction → List Transaction → File → Type 0
 StandsIn was low high file = (file ≡ was) ⊎ Holds low high file
 
--- Each faithful crash image at a moment since the acknowledgement has at least so many transactions, the first of all.
+-- An acknowledgement comes at a moment at which the log ends with its transaction. Each faithful crash image at a moment since then has
+-- at least so many transactions, the first of all.
 pub record IsKept (all : List Transaction) (disk : Disk) (ack : Ack) : Type 0 where
   pub count : ack.number ≤ length all
   pub in_time : ack.call ≤ disk.calls
+  pub exactly : (disk.at ack.call 0).bytes ≡ log_of (take ack.number all)
   pub kept : (m : ℕ) → ack.call ≤ m → m ≤ disk.calls → Holds (take ack.number all) all (disk.at m 0)
 
 -- each of these acknowledgements is kept

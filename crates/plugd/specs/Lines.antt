@@ -34,8 +34,15 @@ pub record AreAll (bytes : List ℕ) (lines : List (List ℕ)) : Type 0 where
   pub splits : Splits bytes ended rest
   pub all : Splits (bytes ++ closing rest) lines []
 
--- the first lines of an input
+-- first lines of these bytes, each ended by a line feed
 pub record AreFirst (bytes : List ℕ) (lines : List (List ℕ)) : Type 0 where
   pub lines_are : AreLines lines
   pub more : List ℕ
-  pub spelt : bytes ++ 13 ∷ 10 ∷ [] ≡ joined lines ++ more
+  pub spelt : bytes ≡ joined lines ++ more
+
+-- first lines of a whole input, whose last line needs no line feed
+pub record AreFirstOfAll (bytes : List ℕ) (lines : List (List ℕ)) : Type 0 where
+  pub ended : List (List ℕ)
+  pub rest : List ℕ
+  pub splits : Splits bytes ended rest
+  pub first : AreFirst (bytes ++ closing rest) lines

@@ -2,6 +2,7 @@
 use Rattle.std.specs.Prelude.{◌≡◌, ◌<◌, ◌≤◌, ◌+◌, ℕ, ℤ, List, [], ◌∷◌, ◌++◌, length, Option, Some, None}
 use Rattle.binlog_file.specs.declared.transaction.Change.{Change}
 use Rattle.binlog_file.specs.declared.transaction.Change.TheVariants as change
+use Rattle.binlog_file.specs.declared.write.TheConstants.{LEN_WITHOUT_TEXT}
 use Rattle.plugd.specs.declared.command.Command.TheVariants as command
 use Rattle.plugd.specs.declared.reply.Reply.{Reply}
 use Rattle.plugd.specs.declared.reply.Reply.TheVariants.{Done, LogSpent, Halted, BadLine}
@@ -33,7 +34,7 @@ halted_at change state = record { line = state.line + 1; count = state.count; le
 
 -- how many bytes the log needs for an insert of this text
 abbrev pub insert_size : List ℕ → ℕ
-insert_size text = 124 + length text
+insert_size text = LEN_WITHOUT_TEXT + length text
 
 -- one line: what it asks for tells its reply and the next state, but that the device may fail
 pub data Turn (limit : ℕ) (line : List ℕ) (before : State) (replies : List Reply) (after : State) : Type 0 where

@@ -18,7 +18,7 @@ use Rattle.plugd.specs.declared.server.Server.{Server}
 use Rattle.plugd.specs.declared.session.Session.{Session}
 use Rattle.plugd.specs.Serve.{Base, Serving}
 use Rattle.plugd.specs.Crash.{IsRecoverableVolume}
-use Rattle.plugd.specs.Session.{input_limit, World, Ends}
+use Rattle.plugd.specs.Session.{input_limit, World, world, Ends}
 
 -- the one word of a run
 abbrev pub IsPlay : List (String Global) → Type 0
@@ -74,7 +74,7 @@ pub data Ended (limit : ℕ) (words : List (String Global)) (start : World) (ans
   usage : ¬ (IsPlay words) → answer ≡ status.Usage 0 → acks ≡ [] → end ≡ start → Ended limit words start answer acks end
   -- the log was not opened: nothing was read or written but the disk
   refused : IsPlay words → (refusal : BinlogFault) → answer ≡ fault_status refusal → acks ≡ [] → (disk : Disk) → Refused start.disk refusal disk
-      → end ≡ record { disk = disk; left = start.left; held = start.held; source_faults = start.source_faults; sink_faults = start.sink_faults }
+      → end ≡ world disk start.left start.source_faults start.held start.sink_faults
       → Ended limit words start answer acks end
   -- the input was played
   played : IsPlay words → (base : Base) → IsBase limit start.disk base → (ending : Ending) → (server : Server) → Ends base start ending server end

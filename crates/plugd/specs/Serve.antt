@@ -46,8 +46,7 @@ pub record Serving (base : Base) (lines : List (List ℕ)) (replies : List Reply
   pub line : state.line ≡ length lines
   pub stopped : Stopped base lines replies server.acks.items disk state
   pub shows : Shows server state
-  pub rest : IsTrue base.start.told → state.met ≡ None → (asked : List Transaction)
-      × Safe base.start base.found asked state server.acks.items disk × AtRest server (base.found ++ asked) disk
+  pub rest : (told : IsTrue base.start.told) → state.met ≡ None → AtRest server (base.found ++ (stopped.safe told).0) disk
 
 -- the server goes on from some opening
 abbrev pub IsServing : Server → Disk → Type 0

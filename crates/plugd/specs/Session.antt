@@ -1,5 +1,5 @@
 -- Where a session stands after some bytes of the input, and how it ends. (This project.)
-use Rattle.std.specs.Prelude.{◌≡◌, ◌≤◌, ◌<◌, ◌+◌, ℕ, List, [], ◌++◌, length, take, flat_map, Option, Some, Result, OnOk, OnErr}
+use Rattle.std.specs.Prelude.{◌≡◌, ◌⊎◌, ◌≤◌, ◌<◌, ◌+◌, ℕ, List, [], ◌++◌, length, take, flat_map, Option, Some, Result, OnOk, OnErr}
 use Rattle.std.specs.declared.alloc.AllocError.{AllocError}
 use Rattle.fault_counts.specs.Rose.{Rose}
 use Rattle.disk_model.specs.Disk.{Disk}
@@ -9,7 +9,7 @@ use Rattle.plugd.specs.declared.play.Ending.{Ending}
 use Rattle.plugd.specs.declared.play.Ending.TheVariants.{EndOfInput, SourceFailed, SinkFailed, TooLong, OutOfMemory}
 use Rattle.plugd.specs.declared.reply.Reply.{Reply}
 use Rattle.plugd.specs.declared.session.Session.{Session}
-use Rattle.plugd.specs.Lines.{AreLines, joined, Splits, AreAll, AreFirst}
+use Rattle.plugd.specs.Lines.{Splits, AreAll, AreFirst, AreFirstOfAll}
 use Rattle.plugd.specs.Reply.{text_of}
 use Rattle.plugd.specs.Serve.{Base, Serving, Halts}
 
@@ -32,9 +32,7 @@ pub record Standing (base : Base) (taken spoken : List ℕ) (session : Session) 
 pub record Starved (base : Base) (taken spoken : List ℕ) (session : Session) (disk : Disk) : Type 0 where
   pub lines : List (List ℕ)
   pub replies : List Reply
-  pub lines_are : AreLines lines
-  pub more : List ℕ
-  pub spelt : taken ≡ joined lines ++ more
+  pub first : AreFirst taken lines
   pub halts : Halts base lines replies session.server disk
   pub untold : List ℕ
   pub texts : flat_map text_of replies ≡ (spoken ++ session.replies.items) ++ untold
@@ -56,27 +54,39 @@ pub record World : Type 0 where
   pub source_faults : ℕ
   pub sink_faults : ℕ
 
+-- the outside as it tells itself: the disk; of the source what is left and its faults; of the sink what it holds and its faults
+abbrev pub world : Disk → Option (List ℕ) → ℕ → Option (List ℕ) → ℕ → World
+world disk left source_faults held sink_faults = record { disk = disk; left = left; held = held; source_faults = source_faults; sink_faults = sink_faults }
+
 -- the counts of faults of source and sink go on
 pub record FaultsGoOn (old new : World) : Type 0 where
   pub source : old.source_faults ≤ new.source_faults
   pub sink : old.sink_faults ≤ new.sink_faults
 
 -- a session that has read these bytes since the start, played them and written all replies
-pub record Reading (base : Base) (start : World) (taken : List ℕ) (session : Session) (world : World) : Type 0 where
+pub record Reading (base : Base) (start : World) (taken : List ℕ) (session : Session) (now : World) : Type 0 where
   pub spoken : List ℕ
-  pub standing : Standing base taken spoken session world.disk
+  pub standing : Standing base taken spoken session now.disk
   pub all_told : session.replies.items ≡ []
-  pub took : Took taken start.left world.left
-  pub put : Put spoken start.held world.held
-  pub faults : FaultsGoOn start world
+  pub took : Took taken start.left now.left
+  pub put : Put spoken start.held now.held
+  pub faults : FaultsGoOn start now
+
+-- nothing is left to read, where that is told
+abbrev pub IsEnd : Option (List ℕ) → Option (List ℕ) → Type 0
+IsEnd old new = (xs : List ℕ) → old ≡ Some xs → new ≡ Some []
+
+-- first lines of what was read, up to the limit; or of all of it, where the input came to its end
+abbrev pub AreSome : Option (List ℕ) → Option (List ℕ) → List ℕ → List (List ℕ) → Type 0
+AreSome old new read lines = AreFirst (take input_limit read) lines ⊎ (IsEnd old new × (length read ≤ input_limit) × AreFirstOfAll read lines)
 
 -- which lines of the input were played, by how the run ended
-abbrev pub Played : Ending → List ℕ → List (List ℕ) → Type 0
-Played EndOfInput read lines = (length read ≤ input_limit) × AreAll read lines
-Played SourceFailed read lines = (length read ≤ input_limit) × (rest : List ℕ) × Splits read lines rest
-Played SinkFailed read lines = AreFirst read lines
-Played TooLong read lines = (input_limit < length read) × (rest : List ℕ) × Splits (take input_limit read) lines rest
-Played OutOfMemory read lines = AreFirst read lines
+abbrev pub Played : Ending → Option (List ℕ) → Option (List ℕ) → List ℕ → List (List ℕ) → Type 0
+Played EndOfInput old new read lines = (length read ≤ input_limit) × AreAll read lines
+Played SourceFailed old new read lines = (length read ≤ input_limit) × (rest : List ℕ) × Splits read lines rest
+Played SinkFailed old new read lines = AreSome old new read lines
+Played TooLong old new read lines = (input_limit < length read) × (rest : List ℕ) × Splits (take input_limit read) lines rest
+Played OutOfMemory old new read lines = AreSome old new read lines
 
 -- which texts were written
 abbrev pub Told : Ending → List ℕ → Option (List ℕ) → Option (List ℕ) → Type 0
@@ -88,28 +98,28 @@ Told OutOfMemory texts old new = PutFront texts old new
 
 -- why it ended
 abbrev pub HasReason : Ending → World → World → Type 0
-HasReason EndOfInput old new = (xs : List ℕ) → old.left ≡ Some xs → new.left ≡ Some []
+HasReason EndOfInput old new = IsEnd old.left new.left
 HasReason SourceFailed old new = Rose old.source_faults new.source_faults
 HasReason SinkFailed old new = Rose old.sink_faults new.sink_faults
 HasReason TooLong old new = Unit {0}
 HasReason OutOfMemory old new = Unit {0}
 
 -- the end of the input, or of what could be played of it
-pub record Ends (base : Base) (start : World) (ending : Ending) (server : Server) (world : World) : Type 0 where
+pub record Ends (base : Base) (start : World) (ending : Ending) (server : Server) (end : World) : Type 0 where
   pub read : List ℕ
   pub lines : List (List ℕ)
   pub replies : List Reply
-  pub took : Took read start.left world.left
-  pub played : Played ending read lines
-  pub halts : Halts base lines replies server world.disk
-  pub told : Told ending (flat_map text_of replies) start.held world.held
-  pub reason : HasReason ending start world
-  pub faults : FaultsGoOn start world
+  pub took : Took read start.left end.left
+  pub played : Played ending start.left end.left read lines
+  pub halts : Halts base lines replies server end.disk
+  pub told : Told ending (flat_map text_of replies) start.held end.held
+  pub reason : HasReason ending start end
+  pub faults : FaultsGoOn start end
 
 -- it reads on, and the input may have so many bytes more
 abbrev pub IsReading : Session → World → ℕ → Type 0
-IsReading session world room = (base : Base) × (start : World) × (taken : List ℕ) × Reading base start taken session world × (length taken + room ≡ input_limit)
+IsReading session now room = (base : Base) × (start : World) × (taken : List ℕ) × Reading base start taken session now × (length taken + room ≡ input_limit)
 
 -- it has read nothing yet
 abbrev pub IsFresh : Session → World → Type 0
-IsFresh session world = (base : Base) × (start : World) × Reading base start [] session world
+IsFresh session now = (base : Base) × (start : World) × Reading base start [] session now

@@ -1,10 +1,10 @@
 //! One transaction into the log: one write and one sync.
 ghost use Rattle.std.specs.Prelude.{◌≡◌, ◌+◌, ◌++◌, ◌∷◌, [], List, length, OnOk, IsErr, IsTrue};
-ghost use Rattle.disk_model.specs.Disk.{Disk, now, Keeps, Only, HasCause};
+ghost use Rattle.disk_model.specs.Disk.{Disk, now, Keeps, Only, HasCause, MakesCalls};
 ghost use Rattle.binlog_file.specs.declared.transaction.Transaction.{Transaction};
 ghost use Rattle.binlog_file.specs.Logged.{Holds};
 ghost use Rattle.binlog_file.specs.Binlog.{flushed_of, durable_of, end_in, IsLog, IsOpen, Carries};
-ghost use Rattle.plugd.specs.LogOne.{IsDurable};
+ghost use Rattle.plugd.specs.LogOne.{IsDurable, EachOne};
 
 use binlog_file::Binlog;
 use disk_model::{Failed, Storage};
@@ -18,20 +18,18 @@ pub(crate) fn log_one(
     requires whole { (t : Transaction) × Carries log.old bytes.now (t ∷ []) }
     requires log { IsOpen log.old (disk volume.old) }
 
-    ensures ok { (list : List Transaction) (t : Transaction) → IsTrue (disk volume.old).told
-        → Carries log.old bytes.now (t ∷ []) → IsDurable log.old list (disk volume.old)
-        → OnOk result (IsDurable log.new (list ++ t ∷ []) (disk volume.new)) }
+    ensures ok { EachOne log.old bytes.now (disk volume.old) (λ list t.
+        OnOk result (IsDurable log.new (list ++ t ∷ []) (disk volume.new))) }
     ensures counts { OnOk result ((flushed_of log.new ≡ flushed_of log.old + 1)
         × (end_in log.new ≡ end_in log.old + length bytes.now)) }
 
     // A crash leaves the transactions before, or this one too.
-    ensures any_moment { (list : List Transaction) (t : Transaction) → IsTrue (disk volume.old).told
-        → Carries log.old bytes.now (t ∷ []) → IsDurable log.old list (disk volume.old)
-        → Keeps (disk volume.old) (disk volume.new) (Only 0 (now (disk volume.old))
-        (Holds list (list ++ t ∷ []))) }
+    ensures any_moment { EachOne log.old bytes.now (disk volume.old) (λ list t.
+        Keeps (disk volume.old) (disk volume.new) (Only 0 (now (disk volume.old))
+        (Holds list (list ++ t ∷ [])))) }
 
     ensures device { HasCause IsErr result (disk volume.old) (disk volume.new) }
-    ensures device_calls { OnOk result ((disk volume.new).calls ≡ (disk volume.old).calls + 1 + 1) }
+    ensures device_calls { MakesCalls 2 result (disk volume.old) (disk volume.new) }
 {
     log.append(volume, bytes, 1)?;
     // The acknowledgement has to come after this sync: a crash before it may leave the transaction out.

@@ -3,8 +3,8 @@
 //! All replies to what was read are written before the next read, so that a client that waits for them is answered.
 ghost use Rattle.std.specs.Prelude.{◌≡◌, ◌≤◌, ◌<◌, ◌+◌, [], ℕ, List, length};
 ghost use Rattle.disk_model.specs.Disk.{Disk};
-ghost use Rattle.plugd.specs.Session.{input_limit, IsStanding, IsReading, IsFresh, Ends, World, Reading};
-ghost use Rattle.plugd.specs.Piece.{PlaysBytes, Closes, PlaysPiece, PlaysAll};
+ghost use Rattle.plugd.specs.Session.{input_limit, IsStanding, IsReading, IsFresh, Ends, World, world, Reading};
+ghost use Rattle.plugd.specs.Piece.{wrote, PlaysBytes, Closes, PlaysPiece, PlaysAll};
 ghost use Rattle.plugd.specs.Serve.{Base};
 
 use crate::session::Session;
@@ -42,12 +42,8 @@ fn play_bytes<K: Sink>(
     requires { IsStanding session.old (disk volume.old) (length bytes.now) }
     ensures { PlaysBytes bytes.now session.old session.new result (disk volume.old)
         (disk volume.new)
-        (record {
-          before = K.held sink.old;
-          after = K.held sink.new;
-          faults = K.sink_faults sink.old;
-          faults_after = K.sink_faults sink.new;
-        }) }
+        (wrote (K.held sink.old) (K.sink_faults sink.old)
+        (K.held sink.new) (K.sink_faults sink.new)) }
 {
     if session.take_all(volume, bytes).is_err() {
         let _ = session.flush(sink);
@@ -67,12 +63,8 @@ fn close<K: Sink>(
 ) -> Result<(), Ending>
     requires { IsStanding session.old (disk volume.old) 2 }
     ensures { Closes session.old session.new result (disk volume.old) (disk volume.new)
-        (record {
-          before = K.held sink.old;
-          after = K.held sink.new;
-          faults = K.sink_faults sink.old;
-          faults_after = K.sink_faults sink.new;
-        }) }
+        (wrote (K.held sink.old) (K.sink_faults sink.old)
+        (K.held sink.new) (K.sink_faults sink.new)) }
 {
     if session.front.is_empty() {
         return Ok(());
@@ -90,29 +82,14 @@ fn play_piece<S: Source, K: Sink>(
     room: usize,
 ) -> Result<usize, Ending>
     requires reading { IsReading session.old
-        (record {
-          disk = disk volume.old;
-          left = S.left source.old;
-          held = K.held sink.old;
-          source_faults = S.source_faults source.old;
-          sink_faults = K.sink_faults sink.old;
-        }) room }
+        (world (disk volume.old) (S.left source.old) (S.source_faults source.old)
+        (K.held sink.old) (K.sink_faults sink.old)) room }
     requires piece { 0 < length buf.old }
-    ensures { PlaysPiece room session.old session.new result
-        (record {
-          disk = disk volume.old;
-          left = S.left source.old;
-          held = K.held sink.old;
-          source_faults = S.source_faults source.old;
-          sink_faults = K.sink_faults sink.old;
-        })
-        (record {
-          disk = disk volume.new;
-          left = S.left source.new;
-          held = K.held sink.new;
-          source_faults = S.source_faults source.new;
-          sink_faults = K.sink_faults sink.new;
-        }) }
+    ensures plays { PlaysPiece room session.old session.new result
+        (world (disk volume.old) (S.left source.old) (S.source_faults source.old)
+        (K.held sink.old) (K.sink_faults sink.old))
+        (world (disk volume.new) (S.left source.new) (S.source_faults source.new)
+        (K.held sink.new) (K.sink_faults sink.new)) }
 {
     let size = buf.len().min(room + 1);
     let piece = &mut buf[..size];
@@ -145,29 +122,14 @@ pub(crate) fn play_all<S: Source, K: Sink>(
     buf: &mut [u8],
 ) -> Ending
     requires reading { IsFresh session.old
-        (record {
-          disk = disk volume.old;
-          left = S.left source.old;
-          held = K.held sink.old;
-          source_faults = S.source_faults source.old;
-          sink_faults = K.sink_faults sink.old;
-        }) }
+        (world (disk volume.old) (S.left source.old) (S.source_faults source.old)
+        (K.held sink.old) (K.sink_faults sink.old)) }
     requires piece { 0 < length buf.old }
-    ensures { PlaysAll session.old session.new result
-        (record {
-          disk = disk volume.old;
-          left = S.left source.old;
-          held = K.held sink.old;
-          source_faults = S.source_faults source.old;
-          sink_faults = K.sink_faults sink.old;
-        })
-        (record {
-          disk = disk volume.new;
-          left = S.left source.new;
-          held = K.held sink.new;
-          source_faults = S.source_faults source.new;
-          sink_faults = K.sink_faults sink.new;
-        }) }
+    ensures plays { PlaysAll session.old session.new result
+        (world (disk volume.old) (S.left source.old) (S.source_faults source.old)
+        (K.held sink.old) (K.sink_faults sink.old))
+        (world (disk volume.new) (S.left source.new) (S.source_faults source.new)
+        (K.held sink.new) (K.sink_faults sink.new)) }
 {
     let mut room = INPUT_LIMIT;
     loop {

@@ -3,6 +3,7 @@ ghost use Rattle.std.specs.Prelude.{◌≡◌, ◌≤◌, ◌↔◌, ℕ, List, 
 ghost use Rattle.disk_model.specs.Disk.{Disk};
 ghost use Rattle.disk_model.specs.Object.{object};
 ghost use Rattle.plugd.specs.Crash.{StaysRecoverable};
+ghost use Rattle.plugd.specs.Session.{world};
 ghost use Rattle.plugd.specs.Run.{Ended, IsComplete, IsPlay, IsStatus, Begins, fault_status};
 
 use crate::ack::Ack;
@@ -115,21 +116,11 @@ pub(crate) fn run_over<S: Source, K: Sink>(
 ) -> Outcome
     requires { limit ≤ 2147483647 }
     ensures { Ended limit words.now
-        (record {
-          disk = disk volume.old;
-          left = S.left source.old;
-          held = K.held sink.old;
-          source_faults = S.source_faults source.old;
-          sink_faults = K.sink_faults sink.old;
-        })
+        (world (disk volume.old) (S.left source.old) (S.source_faults source.old)
+        (K.held sink.old) (K.sink_faults sink.old))
         result.status result.acks.items
-        (record {
-          disk = disk volume.new;
-          left = S.left source.new;
-          held = K.held sink.new;
-          source_faults = S.source_faults source.new;
-          sink_faults = K.sink_faults sink.new;
-        }) }
+        (world (disk volume.new) (S.left source.new) (S.source_faults source.new)
+        (K.held sink.new) (K.sink_faults sink.new)) }
 {
     if !is_play(words) {
         return Outcome {
@@ -155,7 +146,8 @@ pub(crate) fn run_over<S: Source, K: Sink>(
 }
 
 /// Runs the server over a volume: the one word `play` opens the log in file 0 and plays the lines of the input. Each reply is written
-/// before more is read. The volume comes back as the run left it.
+/// before more is read. The volume comes back as the run left it. Where nothing failed, it is Ok or found no memory (`complete`). A crash
+/// at any moment leaves a volume that can be opened, where there was one (`recoverable`).
 pub fn run<S: Source, K: Sink>(
     alloc: Global,
     words: &[String],
@@ -164,41 +156,19 @@ pub fn run<S: Source, K: Sink>(
     volume: Volume,
 ) -> (Outcome, Volume)
     ensures ended { Ended 2147483647 words.now
-        (record {
-          disk = disk (object volume.storage);
-          left = S.left source.old;
-          held = K.held sink.old;
-          source_faults = S.source_faults source.old;
-          sink_faults = K.sink_faults sink.old;
-        })
+        (world (disk (object volume.storage)) (S.left source.old) (S.source_faults source.old)
+        (K.held sink.old) (K.sink_faults sink.old))
         (result.0).status (result.0).acks.items
-        (record {
-          disk = disk (object (result.1).storage);
-          left = S.left source.new;
-          held = K.held sink.new;
-          source_faults = S.source_faults source.new;
-          sink_faults = K.sink_faults sink.new;
-        }) }
+        (world (disk (object (result.1).storage)) (S.left source.new) (S.source_faults source.new)
+        (K.held sink.new) (K.sink_faults sink.new)) }
 
-    // Where nothing failed, it is Ok or found no memory.
     ensures complete { IsComplete words.now
-        (record {
-          disk = disk (object volume.storage);
-          left = S.left source.old;
-          held = K.held sink.old;
-          source_faults = S.source_faults source.old;
-          sink_faults = K.sink_faults sink.old;
-        })
-        (record {
-          disk = disk (object (result.1).storage);
-          left = S.left source.new;
-          held = K.held sink.new;
-          source_faults = S.source_faults source.new;
-          sink_faults = K.sink_faults sink.new;
-        })
+        (world (disk (object volume.storage)) (S.left source.old) (S.source_faults source.old)
+        (K.held sink.old) (K.sink_faults sink.old))
+        (world (disk (object (result.1).storage)) (S.left source.new) (S.source_faults source.new)
+        (K.held sink.new) (K.sink_faults sink.new))
         (result.0).status }
 
-    // A crash at any moment leaves a volume that can be opened, where there was one.
     ensures recoverable { StaysRecoverable (disk (object volume.storage))
         (disk (object (result.1).storage)) }
 {

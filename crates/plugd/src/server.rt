@@ -15,7 +15,7 @@ use crate::command::{Command, command_of};
 use crate::log_one::log_one;
 use crate::reply::Reply;
 use crate::xids::XidSet;
-use binlog_file::{Binlog, Change, Text, Transaction, put_transaction};
+use binlog_file::{Binlog, Change, LEN_WITHOUT_TEXT, Text, Transaction, put_transaction};
 use disk_model::Storage;
 use std::alloc::{AllocError, Global};
 
@@ -45,7 +45,7 @@ impl Server {
     ) -> Result<Option<Reply>, AllocError>
         requires serving { IsServing self.old (disk volume.old) }
         requires few { self.old.lines < 4294967296 }
-        ensures { Answers front.now self.old self.new result (disk volume.old) (disk volume.new) }
+        ensures answers { Answers front.now self.old self.new result (disk volume.old) (disk volume.new) }
     {
         let command = command_of(self.alloc, front)?;
         self.lines += 1;
@@ -72,9 +72,9 @@ impl Server {
         requires text { length text ≤ 10 }
         requires limit { self.old.limit ≤ 2147483647 }
         requires log { IsOpen self.old.log (disk volume.old) }
-        ensures { Commits key text self.old self.new result (disk volume.old) (disk volume.new) }
+        ensures commits { Commits key text self.old self.new result (disk volume.old) (disk volume.new) }
     {
-        let size = 124 + text.as_bytes().len() as u32;
+        let size = LEN_WITHOUT_TEXT + text.as_bytes().len() as u32;
         if size > self.log.room(self.limit) {
             return Ok(Reply::LogSpent);
         }
@@ -94,7 +94,7 @@ impl Server {
         requires whole { (t : Transaction) × Carries self.old.log self.old.spelling.items (t ∷ []) }
         requires room { vec_len self.old.acks < vec_capacity self.old.acks }
         requires log { IsOpen self.old.log (disk volume.old) }
-        ensures { Writes self.old self.new result (disk volume.old) (disk volume.new) }
+        ensures writes { Writes self.old self.new result (disk volume.old) (disk volume.new) }
     {
         match log_one(&mut self.log, volume, &self.spelling) {
             Ok(()) => {

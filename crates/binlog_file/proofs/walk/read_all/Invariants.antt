@@ -1,5 +1,5 @@
 use Rattle.std.proofs.Common.{◌-◌, ◌≡◌, length}
-use Rattle.binlog_file.specs.Opening.{LooksOnly}
+use Rattle.disk_model.specs.Looking.{LooksOnly}
 use Rattle.binlog_file.proofs.WalkLemmas.{Reading}
 use Rattle.binlog_file.proofs.walk.read_all.Given as goal
 

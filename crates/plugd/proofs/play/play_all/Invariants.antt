@@ -1,12 +1,12 @@
 use Rattle.std.specs.Prelude.{◌≡◌, ◌<◌, ◌+◌, ℕ, List, [], length}
 use Rattle.plugd.specs.Serve.{Base}
-use Rattle.plugd.specs.Session.{input_limit, World, Reading}
+use Rattle.plugd.specs.Session.{input_limit, World, world, Reading}
 use Rattle.plugd.proofs.play.play_all.Given as goal
 
 abbrev pub invariant-loop-n : goal.invariant-loop-n
 invariant-loop-n g l =
-    let before : World = record { disk = (goal.Storage-dyn g l.fn.volume.now).disk l.fn.volume.now.1; left = g.S.Source.left l.fn.source; held = g.K.Sink.held l.fn.sink; source_faults = g.S.Source.source_faults l.fn.source; sink_faults = g.K.Sink.sink_faults l.fn.sink } in
-    let now : World = record { disk = (goal.Storage-dyn g l.volume.now).disk l.volume.now.1; left = g.S.Source.left l.source; held = g.K.Sink.held l.sink; source_faults = g.S.Source.source_faults l.source; sink_faults = g.K.Sink.sink_faults l.sink } in
+    let before : World = world ((goal.Storage-dyn g l.fn.volume.now).disk l.fn.volume.now.1) (g.S.Source.left l.fn.source) (g.S.Source.source_faults l.fn.source) (g.K.Sink.held l.fn.sink) (g.K.Sink.sink_faults l.fn.sink) in
+    let now : World = world ((goal.Storage-dyn g l.volume.now).disk l.volume.now.1) (g.S.Source.left l.source) (g.S.Source.source_faults l.source) (g.K.Sink.held l.sink) (g.K.Sink.sink_faults l.sink) in
     ((base : Base) (start : World) → Reading base start [] l.fn.session before → (taken : List ℕ) × (length taken + l.room ≡ input_limit) × Reading base start taken l.session now)
     × (0 < length l.buf)
 

@@ -1,11 +1,14 @@
 use Rattle.std.proofs.Common.{rules, arith}
 use Rattle.std.proofs.lemmas.List.{take_rest}
 use Rattle.std.proofs.lemmas.Grind.{common_steps}
-use Rattle.disk_model.proofs.Replay.{called_failed, called_stays, counted_bytes, read_bytes, fits_none, fits_some}
+use Rattle.disk_model.proofs.Replay.{called_failed, fails_counted, called_stays, counted_bytes, read_bytes, fits_none, fits_some}
 use Rattle.disk_model.proofs.calls.MemoryStorageStorage.read.Goals as goal
 
 pub returns-in_err-counted-clause-called : goal.returns-in_err-counted-clause-called
 returns-in_err-counted-clause-called c = called_failed _ _ _ _ c.counted.result _ (search rules) c.from_residual.ensures.0 c.counted.ensures.counts
+
+pub returns-in_err-counted-clause-exactly : goal.returns-in_err-counted-clause-exactly
+returns-in_err-counted-clause-exactly c = fails_counted _ _ c.counted.result _ (search rules) c.from_residual.ensures.0 c.counted.ensures.counts
 
 pub returns-then-at-bytes-clause-called : goal.returns-then-at-bytes-clause-called
 returns-then-at-bytes-clause-called c = called_stays _ _ _ _ _ c.in_ok-counted.ensures.counts

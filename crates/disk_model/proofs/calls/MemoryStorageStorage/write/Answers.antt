@@ -1,9 +1,12 @@
 use Rattle.std.proofs.Common.{ℕ, List, ◌≤◌, length, refl, sym, subst, rules}
-use Rattle.disk_model.proofs.Replay.{called_failed, called_step, called_starved, counted_bytes}
+use Rattle.disk_model.proofs.Replay.{called_failed, fails_counted, fails_starved, called_step, called_starved, counted_bytes}
 use Rattle.disk_model.proofs.calls.MemoryStorageStorage.write.Goals as goal
 
 pub returns-in_err-counted-clause-called : goal.returns-in_err-counted-clause-called
 returns-in_err-counted-clause-called c = called_failed _ _ _ _ c.counted.result _ (search rules) c.from_residual.ensures.0 c.counted.ensures.counts
+
+pub returns-in_err-counted-clause-exactly : goal.returns-in_err-counted-clause-exactly
+returns-in_err-counted-clause-exactly c = fails_counted _ _ c.counted.result _ (search rules) c.from_residual.ensures.0 c.counted.ensures.counts
 
 pub returns-in-Ok-clause-called : goal.returns-in-Ok-clause-called
 returns-in-Ok-clause-called c = called_step _ c.counted.new.self _ _ _ _ _ _ c.in_ok-counted.ensures.counts c.try_write.ensures.same c.in-Ok.ensures.ok (λ f. record { synced = refl; steps = refl; ok = search rules; err = search rules })
@@ -13,3 +16,6 @@ returns-in-Err-clause-called c = called_starved _ c.counted.new.self c.try_write
 
 pub try_write-requires : goal.try_write-requires
 try_write-requires c = subst (λ (l : List ℕ). c.args.at ≤ length l) (sym (counted_bytes _ _ c.args.file _ c.in_ok-counted.ensures.counts)) (c.requires refl)
+
+pub returns-in-Err-clause-exactly : goal.returns-in-Err-clause-exactly
+returns-in-Err-clause-exactly c = fails_starved _ c.counted.new.self c.try_write.new.self _ _ _ c.no_memory.ensures.err c.in_ok-counted.ensures.counts c.try_write.ensures.same c.in-Err.ensures.err c.no_memory.ensures.faulted c.no_memory.ensures.starved

@@ -12,7 +12,7 @@ use Rattle.plugd.specs.Command.{IsCommand}
 use Rattle.plugd.specs.Commit.{Commits}
 use Rattle.plugd.specs.Play.{settles}
 use Rattle.plugd.proofs.CommandLemmas.{command_of_front}
-use Rattle.plugd.proofs.ServeLemmas.{counted, idle, bad_line, halted_line, inserted, answers_err}
+use Rattle.plugd.proofs.ServeLemmas.{open_of, counted, idle, bad_line, halted_line, inserted, answers_err}
 use Rattle.plugd.proofs.server.Server.answer.Goals as goal
 
 -- what the front of a line asks for, the line does
@@ -28,38 +28,51 @@ committed : (key : ℤ) (text : List ℕ) (old new : Server) (result : Result Re
 committed key text old new result reply start end fits is commits =
     subst (λ (k : ℤ). Commits k text old new (Ok reply) start end) (to_z-of_z w64 key fits) (subst (λ (r : Result Reply AllocError). Commits (to_z w64 (of_z w64 key)) text old new r start end) is commits)
 
+pub commit-requires-clause-log : goal.commit-requires-clause-log
+commit-requires-clause-log g c = open_of c.args.self.now _ c.requires.serving c.if-self.false
+
 pub returns-then-self : goal.returns-then-self
 returns-then-self g c = record {
-  ok = λ base lines replies line part s. halted_line base lines replies c.args.self.now _ s line c.in-Insert.key c.in-Insert.text
-      (asks c.args.front.now line c.in_ok-command.command (Insert c.in-Insert.key c.in-Insert.text) c.in_ok-command.ensures c.in-Insert.is part) c.if-self.true;
-  err = λ base lines replies s. tt;
+  answers = record {
+    ok = λ base lines replies line part s. halted_line base lines replies c.args.self.now _ s line c.in-Insert.key c.in-Insert.text
+        (asks c.args.front.now line c.in_ok-command.command (Insert c.in-Insert.key c.in-Insert.text) c.in_ok-command.ensures c.in-Insert.is part) c.if-self.true;
+    err = λ base lines replies s. tt;
+  };
 }
 
 pub returns-in-Settle : goal.returns-in-Settle
 returns-in-Settle g c = record {
-  ok = λ base lines replies line part s. idle base lines replies c.args.self.now _ s line []
-      (settles (asks c.args.front.now line c.in_ok-command.command Settle c.in_ok-command.ensures c.in-Settle.is part) refl refl) refl;
-  err = λ base lines replies s. tt;
+  answers = record {
+    ok = λ base lines replies line part s. idle base lines replies c.args.self.now _ s line []
+        (settles (asks c.args.front.now line c.in_ok-command.command Settle c.in_ok-command.ensures c.in-Settle.is part) refl refl) refl;
+    err = λ base lines replies s. tt;
+  };
 }
 
 pub returns-in-Bad : goal.returns-in-Bad
 returns-in-Bad g c = record {
-  ok = λ base lines replies line part s. bad_line base lines replies c.args.self.now _ s line
-      (asks c.args.front.now line c.in_ok-command.command Bad c.in_ok-command.ensures c.in-Bad.is part);
-  err = λ base lines replies s. tt;
+  answers = record {
+    ok = λ base lines replies line part s. bad_line base lines replies c.args.self.now _ s line
+        (asks c.args.front.now line c.in_ok-command.command Bad c.in_ok-command.ensures c.in-Bad.is part);
+    err = λ base lines replies s. tt;
+  };
 }
 
 pub returns-in_ok-reply-in-Insert : goal.returns-in_ok-reply-in-Insert
 returns-in_ok-reply-in-Insert g c = record {
-  ok = λ base lines replies line part s. inserted base lines replies c.args.self.now c.commit.new.self _ _ s line c.in-Insert.key c.in-Insert.text c.in_ok-reply-in-Insert.reply
-      (asks c.args.front.now line c.in_ok-command.command (Insert c.in-Insert.key c.in-Insert.text) c.in_ok-command.ensures c.in-Insert.is part) c.if-self.false
-      (committed c.in-Insert.key c.in-Insert.text (counted c.args.self.now) c.commit.new.self c.commit.result c.in_ok-reply-in-Insert.reply _ _ (key_fits c.args.front.now c.in_ok-command.command c.in-Insert.key c.in-Insert.text c.in_ok-command.ensures c.in-Insert.is)
-      c.in_ok-reply-in-Insert.was c.commit.ensures);
-  err = λ base lines replies s. tt;
+  answers = record {
+    ok = λ base lines replies line part s. inserted base lines replies c.args.self.now c.commit.new.self _ _ s line c.in-Insert.key c.in-Insert.text c.in_ok-reply-in-Insert.reply
+        (asks c.args.front.now line c.in_ok-command.command (Insert c.in-Insert.key c.in-Insert.text) c.in_ok-command.ensures c.in-Insert.is part) c.if-self.false
+        (committed c.in-Insert.key c.in-Insert.text (counted c.args.self.now) c.commit.new.self c.commit.result c.in_ok-reply-in-Insert.reply _ _ (key_fits c.args.front.now c.in_ok-command.command c.in-Insert.key c.in-Insert.text c.in_ok-command.ensures c.in-Insert.is)
+        c.in_ok-reply-in-Insert.was c.commit.ensures.commits);
+    err = λ base lines replies s. tt;
+  };
 }
 
 pub returns-in_err-command : goal.returns-in_err-command
-returns-in_err-command g c = answers_err c.args.front.now c.args.self.now _ _ _ _ (search rules) refl refl refl
+returns-in_err-command g c =
+    record { answers = answers_err c.args.front.now c.args.self.now _ _ _ _ (search rules) refl refl refl }
 
 pub returns-in_err-reply-in-Insert : goal.returns-in_err-reply-in-Insert
-returns-in_err-reply-in-Insert g c = answers_err c.args.front.now c.args.self.now _ _ _ _ (search rules) c.in_err-reply-in-Insert.ensures.memory.0 c.in_err-reply-in-Insert.ensures.memory.1 c.in_err-reply-in-Insert.ensures.memory.2
+returns-in_err-reply-in-Insert g c =
+    record { answers = answers_err c.args.front.now c.args.self.now _ _ _ _ (search rules) c.in_err-reply-in-Insert.ensures.commits.memory.0 c.in_err-reply-in-Insert.ensures.commits.memory.1 c.in_err-reply-in-Insert.ensures.commits.memory.2 }
