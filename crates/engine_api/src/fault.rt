@@ -1,6 +1,9 @@
 //! Why a call of an engine was refused.
 ghost use Rattle.std.specs.Prelude.{◌≡◌};
 ghost use Rattle.engine_api.specs.Codes.{code_number};
+ghost use Rattle.engine_api.specs.declared.fault.EngineFault.TheVariants.{Memory};
+
+use std::alloc::AllocError;
 
 /// The handler codes that are used. (MySQL Internals Manual, "Custom Engines"; the numbers are those of `my_base.h`.)
 #[derive(Clone, Copy, Debug, PartialEq, Eq)]
@@ -40,4 +43,12 @@ pub enum EngineFault {
     NotAVolume { file: u32 },
     /// There was no memory. All is as it was.
     Memory,
+}
+
+impl From<AllocError> for EngineFault {
+    ghost from_gives = { λ _ e. e ≡ Memory };
+
+    fn from(_: AllocError) -> Self {
+        EngineFault::Memory
+    }
 }

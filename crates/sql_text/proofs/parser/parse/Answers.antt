@@ -1,0 +1,9 @@
+use Rattle.std.proofs.Common.{arith}
+use Rattle.sql_text.proofs.ParseLemmas.{parses, reads}
+use Rattle.sql_text.proofs.parser.parse.Goals as goal
+
+pub returns-clause-answer : goal.returns-clause-answer
+returns-clause-answer c = parses c.args.bytes.now c.read_text.result (omega arith) c.read_text.ensures
+
+pub returns-clause-only : goal.returns-clause-only
+returns-clause-only c = λ s short spells. reads c.args.bytes.now c.read_text.result s c.read_text.ensures spells
