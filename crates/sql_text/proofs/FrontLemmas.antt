@@ -77,72 +77,77 @@ head_front : (h : Head) → Completable (Headed h)
 unfolding next
 head_front h = (End ∷ [], finish h None, refl)
 
-engine_name_front : (h : CreateHead) → Completable (Creating (record { head = h; due = create.EngineName }))
+-- the steps of a CREATE
+create_steps : ℕ
 unfolding next create_next item after_column key_column key_close engine_name column_in engine_in name_in same_keyword same_sign
+create_steps = 0
+
+engine_name_front : (h : CreateHead) → Completable (Creating (record { head = h; due = create.EngineName }))
+unfolding create_steps
 engine_name_front h = by _ _ (Name a) refl (whole_front _)
 
 equal_front : (h : CreateHead) → Completable (Creating (record { head = h; due = create.Equal }))
-unfolding next create_next item after_column key_column key_close engine_name column_in engine_in name_in same_keyword same_sign
+unfolding create_steps
 equal_front h = by _ _ (Name a) refl (whole_front _)
 
 engine_front : (h : CreateHead) → Completable (Creating (record { head = h; due = create.Engine }))
-unfolding next create_next item after_column key_column key_close engine_name column_in engine_in name_in same_keyword same_sign
+unfolding create_steps
 engine_front h = by _ _ (Keyword words.Engine) refl (equal_front _)
 
 more_front : (h : CreateHead) → Completable (Creating (record { head = h; due = create.More }))
-unfolding next create_next item after_column key_column key_close engine_name column_in engine_in name_in same_keyword same_sign
+unfolding create_steps
 more_front h = by _ _ (Sign signs.Close) refl (engine_front _)
 
 key_close_front : (h : CreateHead) (n : List ℕ) → Completable (Creating (record { head = h; due = create.KeyClose n }))
-unfolding next create_next item after_column key_column key_close engine_name column_in engine_in name_in same_keyword same_sign
+unfolding create_steps
 key_close_front h n = by _ _ (Sign signs.Close) refl (more_front _)
 
 key_column_front : (h : CreateHead) → Completable (Creating (record { head = h; due = create.Key keys.Column }))
-unfolding next create_next item after_column key_column key_close engine_name column_in engine_in name_in same_keyword same_sign
+unfolding create_steps
 key_column_front h = by _ _ (Name a) refl (key_close_front _ _)
 
 key_open_front : (h : CreateHead) → Completable (Creating (record { head = h; due = create.Key keys.Open }))
-unfolding next create_next item after_column key_column key_close engine_name column_in engine_in name_in same_keyword same_sign
+unfolding create_steps
 key_open_front h = by _ _ (Sign signs.Open) refl (key_column_front _)
 
 key_front : (h : CreateHead) → Completable (Creating (record { head = h; due = create.Key keys.Key }))
-unfolding next create_next item after_column key_column key_close engine_name column_in engine_in name_in same_keyword same_sign
+unfolding create_steps
 key_front h = by _ _ (Keyword words.Key) refl (key_open_front _)
 
 options_front : (h : CreateHead) (c : ColumnRead) → Completable (Creating (record { head = h; due = create.Options c }))
-unfolding next create_next item after_column key_column key_close engine_name column_in engine_in name_in same_keyword same_sign
+unfolding create_steps
 options_front h c = by _ _ (Sign signs.Close) refl (engine_front _)
 
 option_key_front : (h : CreateHead) (c : ColumnRead) → Completable (Creating (record { head = h; due = create.OptionKey c }))
-unfolding next create_next item after_column key_column key_close engine_name column_in engine_in name_in same_keyword same_sign
+unfolding create_steps
 option_key_front h c = by _ _ (Keyword words.Key) refl (options_front _ _)
 
 option_null_front : (h : CreateHead) (c : ColumnRead) → Completable (Creating (record { head = h; due = create.OptionNull c }))
-unfolding next create_next item after_column key_column key_close engine_name column_in engine_in name_in same_keyword same_sign
+unfolding create_steps
 option_null_front h c = by _ _ (Keyword words.Null) refl (options_front _ _)
 
 close_front : (h : CreateHead) (n : List ℕ) (k : ℕ) → Completable (Creating (record { head = h; due = create.Column n (columns.Close k) }))
-unfolding next create_next item after_column key_column key_close engine_name column_in engine_in name_in same_keyword same_sign
+unfolding create_steps
 close_front h n k = by _ _ (Sign signs.Close) refl (options_front _ _)
 
 length_front : (h : CreateHead) (n : List ℕ) → Completable (Creating (record { head = h; due = create.Column n columns.Length }))
-unfolding next create_next item after_column key_column key_close engine_name column_in engine_in name_in same_keyword same_sign
+unfolding create_steps
 length_front h n = by _ _ (Number 1) refl (close_front _ _ _)
 
 open_front : (h : CreateHead) (n : List ℕ) → Completable (Creating (record { head = h; due = create.Column n columns.Open }))
-unfolding next create_next item after_column key_column key_close engine_name column_in engine_in name_in same_keyword same_sign
+unfolding create_steps
 open_front h n = by _ _ (Sign signs.Open) refl (length_front _ _)
 
 kind_front : (h : CreateHead) (n : List ℕ) → Completable (Creating (record { head = h; due = create.Column n columns.Kind }))
-unfolding next create_next item after_column key_column key_close engine_name column_in engine_in name_in same_keyword same_sign
+unfolding create_steps
 kind_front h n = by _ _ (Keyword words.BigInt) refl (options_front _ _)
 
 item_front : (h : CreateHead) → Completable (Creating (record { head = h; due = create.Item }))
-unfolding next create_next item after_column key_column key_close engine_name column_in engine_in name_in same_keyword same_sign
+unfolding create_steps
 item_front h = by _ _ (Name a) refl (kind_front _ _)
 
 items_front : (h : CreateHead) → Completable (Creating (record { head = h; due = create.Open }))
-unfolding next create_next item after_column key_column key_close engine_name column_in engine_in name_in same_keyword same_sign
+unfolding create_steps
 items_front h = by _ _ (Sign signs.Open) refl (item_front _)
 
 create_front : (h : CreateHead) (due : CreateDue) → Completable (Creating (record { head = h; due = due }))
@@ -168,24 +173,29 @@ rows_front : (t : List ℕ) (r : List Literals) (v : List Literal) → Completab
 unfolding next insert_next same_sign
 rows_front t r v = by _ (Done _) End refl ([], _, refl)
 
-more_values_front : (t : List ℕ) (r : List Literals) (v : List Literal) → Completable (Inserting (record { table = t; rows = r; values = v; due = insert.More }))
+-- the steps of an INSERT
+insert_steps : ℕ
 unfolding next insert_next value number literal_in text_in same_keyword same_sign
+insert_steps = 0
+
+more_values_front : (t : List ℕ) (r : List Literals) (v : List Literal) → Completable (Inserting (record { table = t; rows = r; values = v; due = insert.More }))
+unfolding insert_steps
 more_values_front t r v = by _ _ (Sign signs.Close) refl (rows_front _ _ _)
 
 number_front : (t : List ℕ) (r : List Literals) (v : List Literal) → Completable (Inserting (record { table = t; rows = r; values = v; due = insert.Number }))
-unfolding next insert_next value number literal_in text_in same_keyword same_sign
+unfolding insert_steps
 number_front t r v = by _ _ (Number 1) refl (more_values_front _ _ _)
 
 value_front : (t : List ℕ) (r : List Literals) (v : List Literal) → Completable (Inserting (record { table = t; rows = r; values = v; due = insert.Value }))
-unfolding next insert_next value number literal_in text_in same_keyword same_sign
+unfolding insert_steps
 value_front t r v = by _ _ (Number 1) refl (more_values_front _ _ _)
 
 row_front : (t : List ℕ) (r : List Literals) (v : List Literal) → Completable (Inserting (record { table = t; rows = r; values = v; due = insert.Open }))
-unfolding next insert_next value number literal_in text_in same_keyword same_sign
+unfolding insert_steps
 row_front t r v = by _ _ (Sign signs.Open) refl (value_front _ _ _)
 
 values_front : (t : List ℕ) (r : List Literals) (v : List Literal) → Completable (Inserting (record { table = t; rows = r; values = v; due = insert.Values }))
-unfolding next insert_next value number literal_in text_in same_keyword same_sign
+unfolding insert_steps
 values_front t r v = by _ _ (Keyword words.Values) refl (row_front _ _ _)
 
 insert_front : (t : List ℕ) (r : List Literals) (v : List Literal) (due : InsertDue) → Completable (Inserting (record { table = t; rows = r; values = v; due = due }))
@@ -196,28 +206,33 @@ insert_front t r v insert.Number = number_front t r v
 insert_front t r v insert.More = more_values_front t r v
 insert_front t r v insert.Rows = rows_front t r v
 
-table_front : (c : List (List ℕ)) → Completable (Selecting (record { columns = c; due = select.Table }))
+-- the steps of a SELECT
+select_steps : ℕ
 unfolding next select_next select_column select_table all_table column_in name_in same_keyword same_sign
+select_steps = 0
+
+table_front : (c : List (List ℕ)) → Completable (Selecting (record { columns = c; due = select.Table }))
+unfolding select_steps
 table_front c = by _ _ (Name a) refl (head_front _)
 
 all_table_front : (c : List (List ℕ)) → Completable (Selecting (record { columns = c; due = select.AllTable }))
-unfolding next select_next select_column select_table all_table column_in name_in same_keyword same_sign
+unfolding select_steps
 all_table_front c = by _ _ (Name a) refl (head_front _)
 
 all_from_front : (c : List (List ℕ)) → Completable (Selecting (record { columns = c; due = select.AllFrom }))
-unfolding next select_next select_column select_table all_table column_in name_in same_keyword same_sign
+unfolding select_steps
 all_from_front c = by _ _ (Keyword words.From) refl (all_table_front _)
 
 more_columns_front : (c : List (List ℕ)) → Completable (Selecting (record { columns = c; due = select.More }))
-unfolding next select_next select_column select_table all_table column_in name_in same_keyword same_sign
+unfolding select_steps
 more_columns_front c = by _ _ (Keyword words.From) refl (table_front _)
 
 column_front : (c : List (List ℕ)) → Completable (Selecting (record { columns = c; due = select.Column }))
-unfolding next select_next select_column select_table all_table column_in name_in same_keyword same_sign
+unfolding select_steps
 column_front c = by _ _ (Name a) refl (more_columns_front _)
 
 columns_front : (c : List (List ℕ)) → Completable (Selecting (record { columns = c; due = select.Columns }))
-unfolding next select_next select_column select_table all_table column_in name_in same_keyword same_sign
+unfolding select_steps
 columns_front c = by _ _ (Name a) refl (more_columns_front _)
 
 select_front : (c : List (List ℕ)) (due : SelectDue) → Completable (Selecting (record { columns = c; due = due }))
@@ -232,28 +247,33 @@ ready_set_front : (t : List ℕ) (s : List Assign) (n : List ℕ) (r : Sum) → 
 unfolding next update_next sum_step same_sign same_keyword
 ready_set_front t s n r = by _ (Done _) End refl ([], _, refl)
 
-first_set_front : (t : List ℕ) (s : List Assign) (n : List ℕ) → Completable (Updating (record { table = t; sets = s; due = update.Sum n sums.First }))
+-- the steps of an UPDATE
+update_steps : ℕ
 unfolding next update_next update_column sum_step operand_in negative_operand literal_in text_in column_in name_in same_keyword same_sign
+update_steps = 0
+
+first_set_front : (t : List ℕ) (s : List Assign) (n : List ℕ) → Completable (Updating (record { table = t; sets = s; due = update.Sum n sums.First }))
+unfolding update_steps
 first_set_front t s n = by _ _ (Number 1) refl (ready_set_front _ _ _ _)
 
 first_number_set_front : (t : List ℕ) (s : List Assign) (n : List ℕ) → Completable (Updating (record { table = t; sets = s; due = update.Sum n sums.FirstNumber }))
-unfolding next update_next update_column sum_step operand_in negative_operand literal_in text_in column_in name_in same_keyword same_sign
+unfolding update_steps
 first_number_set_front t s n = by _ _ (Number 1) refl (ready_set_front _ _ _ _)
 
 next_set_front : (t : List ℕ) (s : List Assign) (n : List ℕ) (r : Sum) (m : Bool) → Completable (Updating (record { table = t; sets = s; due = update.Sum n (sums.Next r m) }))
-unfolding next update_next update_column sum_step operand_in negative_operand literal_in text_in column_in name_in same_keyword same_sign
+unfolding update_steps
 next_set_front t s n r m = by _ _ (Number 1) refl (ready_set_front _ _ _ _)
 
 next_number_set_front : (t : List ℕ) (s : List Assign) (n : List ℕ) (r : Sum) (m : Bool) → Completable (Updating (record { table = t; sets = s; due = update.Sum n (sums.NextNumber r m) }))
-unfolding next update_next update_column sum_step operand_in negative_operand literal_in text_in column_in name_in same_keyword same_sign
+unfolding update_steps
 next_number_set_front t s n r m = by _ _ (Number 1) refl (ready_set_front _ _ _ _)
 
 equal_set_front : (t : List ℕ) (s : List Assign) (n : List ℕ) → Completable (Updating (record { table = t; sets = s; due = update.Equal n }))
-unfolding next update_next update_column sum_step operand_in negative_operand literal_in text_in column_in name_in same_keyword same_sign
+unfolding update_steps
 equal_set_front t s n = by _ _ (Sign signs.Equal) refl (first_set_front _ _ _)
 
 column_set_front : (t : List ℕ) (s : List Assign) → Completable (Updating (record { table = t; sets = s; due = update.Column }))
-unfolding next update_next update_column sum_step operand_in negative_operand literal_in text_in column_in name_in same_keyword same_sign
+unfolding update_steps
 column_set_front t s = by _ _ (Name a) refl (equal_set_front _ _ _)
 
 update_front : (t : List ℕ) (s : List Assign) (due : UpdateDue) → Completable (Updating (record { table = t; sets = s; due = due }))
@@ -302,56 +322,61 @@ after_level_front (suc n) h t (y ∷ ys) is len =
 after_front : (h : Head) (t : Tests) → Completable (Filtering (record { head = h; tests = t; due = filter.More }))
 after_front h t = after_level_front (length t.outer) h t t.outer refl refl
 
-is_front : (h : Head) (t : Tests) (s : Sum) → Completable (Filtering (record { head = h; tests = t; due = filter.Is s }))
+-- the steps of a condition
+filter_steps : ℕ
 unfolding next filter_next member left op null compared more at_end finished with_test with_member with_and with_or closed sum_step operand_in negative_operand literal_in text_in column_in name_in same_keyword same_sign
+filter_steps = 0
+
+is_front : (h : Head) (t : Tests) (s : Sum) → Completable (Filtering (record { head = h; tests = t; due = filter.Is s }))
+unfolding filter_steps
 is_front h t s = by _ _ (Keyword words.Null) refl (after_front _ _)
 
 is_not_front : (h : Head) (t : Tests) (s : Sum) → Completable (Filtering (record { head = h; tests = t; due = filter.IsNot s }))
-unfolding next filter_next member left op null compared more at_end finished with_test with_member with_and with_or closed sum_step operand_in negative_operand literal_in text_in column_in name_in same_keyword same_sign
+unfolding filter_steps
 is_not_front h t s = by _ _ (Keyword words.Null) refl (after_front _ _)
 
 ready_left_front : (h : Head) (t : Tests) (s : Sum) → Completable (Filtering (record { head = h; tests = t; due = filter.Left (sums.Ready s) }))
-unfolding next filter_next member left op null compared more at_end finished with_test with_member with_and with_or closed sum_step operand_in negative_operand literal_in text_in column_in name_in same_keyword same_sign
+unfolding filter_steps
 ready_left_front h t s = by _ _ (Keyword words.Is) refl (is_front _ _ _)
 
 first_left_front : (h : Head) (t : Tests) → Completable (Filtering (record { head = h; tests = t; due = filter.Left sums.First }))
-unfolding next filter_next member left op null compared more at_end finished with_test with_member with_and with_or closed sum_step operand_in negative_operand literal_in text_in column_in name_in same_keyword same_sign
+unfolding filter_steps
 first_left_front h t = by _ _ (Number 1) refl (ready_left_front _ _ _)
 
 first_number_left_front : (h : Head) (t : Tests) → Completable (Filtering (record { head = h; tests = t; due = filter.Left sums.FirstNumber }))
-unfolding next filter_next member left op null compared more at_end finished with_test with_member with_and with_or closed sum_step operand_in negative_operand literal_in text_in column_in name_in same_keyword same_sign
+unfolding filter_steps
 first_number_left_front h t = by _ _ (Number 1) refl (ready_left_front _ _ _)
 
 next_left_front : (h : Head) (t : Tests) (s : Sum) (m : Bool) → Completable (Filtering (record { head = h; tests = t; due = filter.Left (sums.Next s m) }))
-unfolding next filter_next member left op null compared more at_end finished with_test with_member with_and with_or closed sum_step operand_in negative_operand literal_in text_in column_in name_in same_keyword same_sign
+unfolding filter_steps
 next_left_front h t s m = by _ _ (Number 1) refl (ready_left_front _ _ _)
 
 next_number_left_front : (h : Head) (t : Tests) (s : Sum) (m : Bool) → Completable (Filtering (record { head = h; tests = t; due = filter.Left (sums.NextNumber s m) }))
-unfolding next filter_next member left op null compared more at_end finished with_test with_member with_and with_or closed sum_step operand_in negative_operand literal_in text_in column_in name_in same_keyword same_sign
+unfolding filter_steps
 next_number_left_front h t s m = by _ _ (Number 1) refl (ready_left_front _ _ _)
 
 member_front : (h : Head) (t : Tests) → Completable (Filtering (record { head = h; tests = t; due = filter.Member }))
-unfolding next filter_next member left op null compared more at_end finished with_test with_member with_and with_or closed sum_step operand_in negative_operand literal_in text_in column_in name_in same_keyword same_sign
+unfolding filter_steps
 member_front h t = by _ _ (Number 1) refl (ready_left_front _ _ _)
 
 ready_right_front : (h : Head) (t : Tests) (l : Sum) (o : Op) (s : Sum) → Completable (Filtering (record { head = h; tests = t; due = filter.Right l o (sums.Ready s) }))
-unfolding next filter_next member left op null compared more at_end finished with_test with_member with_and with_or closed sum_step operand_in negative_operand literal_in text_in column_in name_in same_keyword same_sign
+unfolding filter_steps
 ready_right_front h t l o s = by _ _ (Keyword words.And) refl (member_front _ _)
 
 first_right_front : (h : Head) (t : Tests) (l : Sum) (o : Op) → Completable (Filtering (record { head = h; tests = t; due = filter.Right l o sums.First }))
-unfolding next filter_next member left op null compared more at_end finished with_test with_member with_and with_or closed sum_step operand_in negative_operand literal_in text_in column_in name_in same_keyword same_sign
+unfolding filter_steps
 first_right_front h t l o = by _ _ (Number 1) refl (ready_right_front _ _ _ _ _)
 
 first_number_right_front : (h : Head) (t : Tests) (l : Sum) (o : Op) → Completable (Filtering (record { head = h; tests = t; due = filter.Right l o sums.FirstNumber }))
-unfolding next filter_next member left op null compared more at_end finished with_test with_member with_and with_or closed sum_step operand_in negative_operand literal_in text_in column_in name_in same_keyword same_sign
+unfolding filter_steps
 first_number_right_front h t l o = by _ _ (Number 1) refl (ready_right_front _ _ _ _ _)
 
 next_right_front : (h : Head) (t : Tests) (l : Sum) (o : Op) (s : Sum) (m : Bool) → Completable (Filtering (record { head = h; tests = t; due = filter.Right l o (sums.Next s m) }))
-unfolding next filter_next member left op null compared more at_end finished with_test with_member with_and with_or closed sum_step operand_in negative_operand literal_in text_in column_in name_in same_keyword same_sign
+unfolding filter_steps
 next_right_front h t l o s m = by _ _ (Number 1) refl (ready_right_front _ _ _ _ _)
 
 next_number_right_front : (h : Head) (t : Tests) (l : Sum) (o : Op) (s : Sum) (m : Bool) → Completable (Filtering (record { head = h; tests = t; due = filter.Right l o (sums.NextNumber s m) }))
-unfolding next filter_next member left op null compared more at_end finished with_test with_member with_and with_or closed sum_step operand_in negative_operand literal_in text_in column_in name_in same_keyword same_sign
+unfolding filter_steps
 next_number_right_front h t l o s m = by _ _ (Number 1) refl (ready_right_front _ _ _ _ _)
 
 filter_front : (h : Head) (t : Tests) (due : FilterDue) → Completable (Filtering (record { head = h; tests = t; due = due }))
@@ -370,44 +395,49 @@ filter_front h t (filter.Right l o (sums.Next s m)) = next_right_front h t l o s
 filter_front h t (filter.Right l o (sums.NextNumber s m)) = next_number_right_front h t l o s m
 filter_front h t filter.More = after_front h t
 
-create_name_front : Completable (Opening openings.CreateName)
+-- the steps of first words
+opening_steps : ℕ
 unfolding next opening_next name_in same_keyword same_sign
+opening_steps = 0
+
+create_name_front : Completable (Opening openings.CreateName)
+unfolding opening_steps
 create_name_front = by _ _ (Name a) refl (create_front _ _)
 
 create_table_front : Completable (Opening openings.CreateTable)
-unfolding next opening_next name_in same_keyword same_sign
+unfolding opening_steps
 create_table_front = by _ _ (Keyword words.Table) refl (create_name_front)
 
 drop_name_front : Completable (Opening openings.DropName)
-unfolding next opening_next name_in same_keyword same_sign
+unfolding opening_steps
 drop_name_front = by _ _ (Name a) refl (whole_front _)
 
 drop_table_front : Completable (Opening openings.DropTable)
-unfolding next opening_next name_in same_keyword same_sign
+unfolding opening_steps
 drop_table_front = by _ _ (Keyword words.Table) refl (drop_name_front)
 
 insert_name_front : Completable (Opening openings.InsertName)
-unfolding next opening_next name_in same_keyword same_sign
+unfolding opening_steps
 insert_name_front = by _ _ (Name a) refl (insert_front _ _ _ _)
 
 insert_into_front : Completable (Opening openings.InsertInto)
-unfolding next opening_next name_in same_keyword same_sign
+unfolding opening_steps
 insert_into_front = by _ _ (Keyword words.Into) refl (insert_name_front)
 
 update_set_front : (t : List ℕ) → Completable (Opening (openings.UpdateSet t))
-unfolding next opening_next name_in same_keyword same_sign
+unfolding opening_steps
 update_set_front t = by _ _ (Keyword words.Set) refl (update_front _ _ _)
 
 update_name_front : Completable (Opening openings.UpdateName)
-unfolding next opening_next name_in same_keyword same_sign
+unfolding opening_steps
 update_name_front = by _ _ (Name a) refl (update_set_front _)
 
 delete_name_front : Completable (Opening openings.DeleteName)
-unfolding next opening_next name_in same_keyword same_sign
+unfolding opening_steps
 delete_name_front = by _ _ (Name a) refl (head_front _)
 
 delete_from_front : Completable (Opening openings.DeleteFrom)
-unfolding next opening_next name_in same_keyword same_sign
+unfolding opening_steps
 delete_from_front = by _ _ (Keyword words.From) refl (delete_name_front)
 
 opening_front : (o : OpeningPart) → Completable (Opening o)
@@ -422,44 +452,49 @@ opening_front (openings.UpdateSet t) = update_set_front t
 opening_front openings.DeleteFrom = delete_from_front
 opening_front openings.DeleteName = delete_name_front
 
-begin_front : Completable (Transacting transactions.BeginWork)
+-- the steps of a statement on transactions
+transaction_steps : ℕ
 unfolding next transaction_next to_name column_in name_in same_keyword same_sign
+transaction_steps = 0
+
+begin_front : Completable (Transacting transactions.BeginWork)
+unfolding transaction_steps
 begin_front = by _ _ (Keyword words.Work) refl (whole_front _)
 
 start_front : Completable (Transacting transactions.StartTransaction)
-unfolding next transaction_next to_name column_in name_in same_keyword same_sign
+unfolding transaction_steps
 start_front = by _ _ (Keyword words.Transaction) refl (whole_front _)
 
 commit_front : Completable (Transacting transactions.CommitWork)
-unfolding next transaction_next to_name column_in name_in same_keyword same_sign
+unfolding transaction_steps
 commit_front = by _ _ (Keyword words.Work) refl (whole_front _)
 
 to_name_front : Completable (Transacting transactions.ToName)
-unfolding next transaction_next to_name column_in name_in same_keyword same_sign
+unfolding transaction_steps
 to_name_front = by _ _ (Name a) refl (whole_front _)
 
 to_savepoint_front : Completable (Transacting transactions.ToSavepoint)
-unfolding next transaction_next to_name column_in name_in same_keyword same_sign
+unfolding transaction_steps
 to_savepoint_front = by _ _ (Name a) refl (whole_front _)
 
 rollback_to_front : Completable (Transacting transactions.RollbackTo)
-unfolding next transaction_next to_name column_in name_in same_keyword same_sign
+unfolding transaction_steps
 rollback_to_front = by _ _ (Keyword words.To) refl (to_savepoint_front)
 
 rollback_front : Completable (Transacting transactions.RollbackWork)
-unfolding next transaction_next to_name column_in name_in same_keyword same_sign
+unfolding transaction_steps
 rollback_front = by _ _ (Keyword words.To) refl (to_savepoint_front)
 
 savepoint_front : Completable (Transacting transactions.SavepointName)
-unfolding next transaction_next to_name column_in name_in same_keyword same_sign
+unfolding transaction_steps
 savepoint_front = by _ _ (Name a) refl (whole_front _)
 
 release_name_front : Completable (Transacting transactions.ReleaseName)
-unfolding next transaction_next to_name column_in name_in same_keyword same_sign
+unfolding transaction_steps
 release_name_front = by _ _ (Name a) refl (whole_front _)
 
 release_front : Completable (Transacting transactions.ReleaseSavepoint)
-unfolding next transaction_next to_name column_in name_in same_keyword same_sign
+unfolding transaction_steps
 release_front = by _ _ (Keyword words.Savepoint) refl (release_name_front)
 
 transaction_front : (o : TransactingPart) → Completable (Transacting o)
@@ -474,28 +509,33 @@ transaction_front transactions.SavepointName = savepoint_front
 transaction_front transactions.ReleaseSavepoint = release_front
 transaction_front transactions.ReleaseName = release_name_front
 
-file_front : (n : List ℕ) → Completable (Plugging (plugs.InstallFile n))
+-- the steps of a statement on plugins
+plugin_steps : ℕ
 unfolding next plugin_next engine_in name_in text_in same_keyword
+plugin_steps = 0
+
+file_front : (n : List ℕ) → Completable (Plugging (plugs.InstallFile n))
+unfolding plugin_steps
 file_front n = by _ _ (Text []) refl (whole_front _)
 
 soname_front : (n : List ℕ) → Completable (Plugging (plugs.InstallSoname n))
-unfolding next plugin_next engine_in name_in text_in same_keyword
+unfolding plugin_steps
 soname_front n = by _ _ (Keyword words.Soname) refl (file_front _)
 
 install_name_front : Completable (Plugging plugs.InstallName)
-unfolding next plugin_next engine_in name_in text_in same_keyword
+unfolding plugin_steps
 install_name_front = by _ _ (Name a) refl (soname_front _)
 
 install_front : Completable (Plugging plugs.InstallPlugin)
-unfolding next plugin_next engine_in name_in text_in same_keyword
+unfolding plugin_steps
 install_front = by _ _ (Keyword words.Plugin) refl (install_name_front)
 
 uninstall_name_front : Completable (Plugging plugs.UninstallName)
-unfolding next plugin_next engine_in name_in text_in same_keyword
+unfolding plugin_steps
 uninstall_name_front = by _ _ (Name a) refl (whole_front _)
 
 uninstall_front : Completable (Plugging plugs.UninstallPlugin)
-unfolding next plugin_next engine_in name_in text_in same_keyword
+unfolding plugin_steps
 uninstall_front = by _ _ (Keyword words.Plugin) refl (uninstall_name_front)
 
 plugin_front : (o : PluggingPart) → Completable (Plugging o)

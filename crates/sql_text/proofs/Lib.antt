@@ -14,6 +14,7 @@ pub mod FormLemmas
 pub mod FrontLemmas
 pub mod GrammarLemmas
 pub mod LastLemmas
+pub mod LexisLemmas
 pub mod NumberLemmas
 pub mod Options
 pub mod ParseLemmas
@@ -23,4 +24,5 @@ pub mod ReadingLemmas
 pub mod Rests
 pub mod SpotLemmas
 pub mod SumLemmas
+pub mod TextLemmas
 pub mod TokenLemmas

@@ -6,7 +6,7 @@ use Rattle.sql_text.specs.declared.lexeme.Class.TheVariants.{Blank}
 use Rattle.sql_text.specs.declared.lexeme.Lexeme.{Lexeme}
 use Rattle.sql_text.specs.declared.parser.ParseFault.{ParseFault}
 use Rattle.sql_text.specs.declared.parser.ParseFault.TheVariants as fault
-use Rattle.sql_text.specs.declared.reading.Reading.TheVariants.{Start}
+use Rattle.sql_text.specs.declared.reading.Reading.TheVariants.{Start, Done}
 use Rattle.sql_text.specs.declared.statement.Statement.{Statement}
 use Rattle.sql_text.specs.declared.token.Token.{Token}
 use Rattle.sql_text.specs.Lexemes.{is_in, is_last, lexeme_at}
@@ -14,6 +14,8 @@ use Rattle.sql_text.specs.Statements.{lexemes_of, Parses, Spells}
 use Rattle.sql_text.specs.Run.{run, ends_last, ReadsAs}
 use Rattle.sql_text.proofs.FormLemmas.{form_spelt}
 use Rattle.sql_text.proofs.GrammarLemmas.{spelt_form}
+use Rattle.sql_text.proofs.TextLemmas.{are_tokens, same_tokens}
+use Rattle.sql_text.specs.Forms.{IsStatement}
 use Rattle.sql_text.specs.Tokens.{token, tokens_from, tokens_of, ending}
 use Rattle.sql_text.proofs.FaultLemmas.{spelt, is_read, has_place, faults}
 
@@ -48,11 +50,11 @@ text_ends bytes =
 refused : (bytes : List ℕ) (x : Refusal) → length bytes ≤ 65536 → run Start (tokens_of bytes) ≡ Err (fault.Refused x) → Parses bytes (Err (fault.Refused x))
 refused bytes x short ran =
     let p = has_place Start (tokens_of bytes) x ran in
-    inr (p.0, p.1, short, faults Start [] (tokens_of bytes) p.0 refl (ran ∙ ap (λ y. Err (fault.Refused y)) p.1))
+    inr (p.0, tokens_of bytes, p.1, short, are_tokens bytes, faults Start [] (tokens_of bytes) p.0 refl (ran ∙ ap (λ y. Err (fault.Refused y)) p.1))
 
 -- what is read is spelt, and what is refused has its fault there
 pub parses : (bytes : List ℕ) (r : Result Statement ParseFault) → length bytes ≤ 65536 → ReadsAs r (run Start (tokens_of bytes)) → Parses bytes r
-parses bytes (Ok s) short ran = (short, spelt_form (lexemes_of (tokens_of bytes)) s (spelt Start (tokens_of bytes) s ran))
+parses bytes (Ok s) short ran = (short, (tokens_of bytes, are_tokens bytes, spelt_form (lexemes_of (tokens_of bytes)) s (spelt Start (tokens_of bytes) s ran)))
 parses bytes (Err fault.Memory) short ran = tt
 parses bytes (Err (fault.Refused x)) short ran = refused bytes x short ran
 
@@ -64,6 +66,16 @@ read_or_none (Err (fault.Refused x)) s same = absurd cc
 -- what is spelt is read
 pub reads : (bytes : List ℕ) (r : Result Statement ParseFault) (s : Statement) → ReadsAs r (run Start (tokens_of bytes)) → Spells bytes s
     → (r ≡ Ok s) ⊎ (r ≡ Err fault.Memory)
-reads bytes r s ran spells =
-    let read = is_read Start (tokens_of bytes) s (form_spelt (lexemes_of (tokens_of bytes)) s spells) in
+reads bytes r s ran (tokens, are, is) =
+    let form = subst (λ ts. IsStatement (lexemes_of ts) s) (same_tokens bytes tokens are) is in
+    let read = is_read Start (tokens_of bytes) s (form_spelt (lexemes_of (tokens_of bytes)) s form) in
     read_or_none r s (subst (ReadsAs r) read ran)
+
+-- a text spells one statement at most
+pub one : (bytes : List ℕ) (a b : Statement) → Spells bytes a → Spells bytes b → a ≡ b
+one bytes a b (ts, are, is) (us, also, has) =
+    let same = same_tokens bytes us also ∙ sym (same_tokens bytes ts are) in
+    let first = form_spelt (lexemes_of ts) a is in
+    let second = form_spelt (lexemes_of ts) b (subst (λ xs. IsStatement (lexemes_of xs) b) same has) in
+    let done : Ok (Done a) ≡ Ok (Done b) = sym first ∙ second in
+    cc

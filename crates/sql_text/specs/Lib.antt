@@ -5,6 +5,7 @@ pub mod Forms
 pub mod Insert
 pub mod Keywords
 pub mod Lexemes
+pub mod Lexis
 pub mod Numbers
 pub mod Opening
 pub mod Parts

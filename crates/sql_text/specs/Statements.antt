@@ -8,7 +8,7 @@ use Rattle.sql_text.specs.declared.parser.ParseFault.TheVariants as fault
 use Rattle.sql_text.specs.declared.statement.Statement.{Statement}
 use Rattle.sql_text.specs.declared.token.Token.{Token}
 use Rattle.sql_text.specs.Forms.{IsStatement}
-use Rattle.sql_text.specs.Tokens.{tokens_of}
+use Rattle.sql_text.specs.Lexis.{AreTokens}
 
 -- the lexemes of tokens
 abbrev pub lexemes_of : List Token → List Lexeme
@@ -16,7 +16,7 @@ lexemes_of tokens = map (λ t. t.lexeme) tokens
 
 -- the text spells this statement
 abbrev pub Spells : List ℕ → Statement → Type 0
-Spells bytes statement = IsStatement (lexemes_of (tokens_of bytes)) statement
+Spells bytes statement = (tokens : List Token) × AreTokens bytes tokens × IsStatement (lexemes_of tokens) statement
 
 -- some statement begins with these lexemes
 abbrev pub IsFront : List Lexeme → Type 0
@@ -45,7 +45,7 @@ abbrev pub Refuses : List ℕ → ParseFault → Type 0
 Refuses bytes fault.Memory = Unit {0}
 Refuses bytes (fault.Refused refusal) =
     ((refusal ≡ StatementTooLong) × (65536 < length bytes))
-    ⊎ ((at : ℕ) × (refusal ≡ Syntax at) × (length bytes ≤ 65536) × FaultsAt (tokens_of bytes) at)
+    ⊎ ((at : ℕ) × (tokens : List Token) × (refusal ≡ Syntax at) × (length bytes ≤ 65536) × AreTokens bytes tokens × FaultsAt tokens at)
 
 -- the text spells this statement, or is refused for this
 abbrev pub Parses : List ℕ → Result Statement ParseFault → Type 0

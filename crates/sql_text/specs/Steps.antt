@@ -15,8 +15,8 @@ use Rattle.sql_text.specs.declared.step.StepFault.TheVariants.{Unexpected, InTex
 abbrev pub Step : Type 0 → Type 0
 Step A = Result A StepFault
 
--- one step, and then another with what it read
 infixl 10 ◌>>=◌
+-- one step, and then another with what it read
 abbrev pub ◌>>=◌ : {A B : Type 0} → Step A → (A → Step B) → Step B
 (Ok x) >>= f = f x
 (Err e) >>= f = Err e

@@ -54,7 +54,7 @@ impl Number {
 pub fn read_number(digits: &[u8]) -> Number
     requires digits { AreDigits digits.now }
     requires few { length digits.now ≤ 38 }
-    ensures { result ≡ number_of digits.now }
+    ensures value { result ≡ number_of digits.now }
 {
     let mut value: u128 = 0;
     for digit in digits {

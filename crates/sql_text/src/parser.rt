@@ -94,6 +94,7 @@ pub fn parse(alloc: Global, bytes: &[u8]) -> Result<Statement, ParseFault>
     // What is spelt is read, unless memory runs out.
     ensures only { (statement : Statement) → length bytes.now ≤ 65536 → Spells bytes.now statement
         → (result ≡ Ok statement) ⊎ (result ≡ Err ParseFault.Memory) }
+    ensures one { (a b : Statement) → Spells bytes.now a → Spells bytes.now b → a ≡ b }
 {
     if bytes.len() > 65536 {
         return Err(ParseFault::Refused(Refusal::StatementTooLong));

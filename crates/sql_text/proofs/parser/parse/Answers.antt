@@ -1,5 +1,5 @@
 use Rattle.std.proofs.Common.{arith}
-use Rattle.sql_text.proofs.ParseLemmas.{parses, reads}
+use Rattle.sql_text.proofs.ParseLemmas.{one, parses, reads}
 use Rattle.sql_text.proofs.parser.parse.Goals as goal
 
 pub returns-clause-answer : goal.returns-clause-answer
@@ -7,3 +7,9 @@ returns-clause-answer c = parses c.args.bytes.now c.read_text.result (omega arit
 
 pub returns-clause-only : goal.returns-clause-only
 returns-clause-only c = λ s short spells. reads c.args.bytes.now c.read_text.result s c.read_text.ensures spells
+
+pub returns-clause-one : goal.returns-clause-one
+returns-clause-one c = one c.args.bytes.now
+
+pub returns-then-bytes-gt65536-clause-one : goal.returns-then-bytes-gt65536-clause-one
+returns-then-bytes-gt65536-clause-one c = one c.args.bytes.now
