@@ -1,0 +1,6 @@
+pub mod Stored
+pub mod Folds
+pub mod Bytes
+pub mod Opens
+pub mod Live
+pub mod Loads
