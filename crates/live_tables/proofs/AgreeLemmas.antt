@@ -21,12 +21,6 @@ pub found_itself : (o : Option Table) → AgreeFound o o
 found_itself None = tt
 found_itself (Some t) = (refl, λ column key. refl)
 
-pub found_sym : (o p : Option Table) → AgreeFound o p → AgreeFound p o
-found_sym None None h = tt
-found_sym None (Some u) h = absurd h
-found_sym (Some t) None h = absurd h
-found_sym (Some t) (Some u) h = (sym h.0, λ column key. sym (h.1 column key))
-
 pub found_trans : (o p q : Option Table) → AgreeFound o p → AgreeFound p q → AgreeFound o q
 found_trans None None None h k = tt
 found_trans None None (Some v) h k = absurd k
@@ -37,9 +31,6 @@ found_trans (Some t) (Some u) (Some v) h k = (h.0 ∙ k.0, λ column key. h.1 co
 
 pub agree_itself : (ts : List Table) → Agree ts ts
 agree_itself ts n = found_itself (table_named n ts)
-
-pub agree_sym : (ts us : List Table) → Agree ts us → Agree us ts
-agree_sym ts us h n = found_sym (table_named n ts) (table_named n us) (h n)
 
 pub agree_trans : (ts us vs : List Table) → Agree ts us → Agree us vs → Agree ts vs
 agree_trans ts us vs h k n = found_trans (table_named n ts) (table_named n us) (table_named n vs) (h n) (k n)

@@ -28,15 +28,6 @@ use Rattle.live_tables.proofs.FoldLemmas.{all_apply_append}
 use Rattle.live_tables.proofs.MeetLemmas.{keys_none, keys_apart, or_false, apart_sym}
 use Rattle.live_tables.proofs.AgreeLemmas.{found_itself, agree_itself, agree_trans, agree_all_apply, agree_changes}
 
--- a row's key value is its value in the key column, which is there
-key_there : {P : Type 0} (key : Option ℕ) (row : List Value) (x : Value) → option_and_then (slice_get row) key ≡ Some x
-    → ((column : ℕ) → key ≡ Some column → key_in column row ≡ x → P) → P
-key_there None row x h then = absurd (none h)
-  where
-    none : None ≡ Some x → ⊥
-    none q = cc
-key_there (Some column) row x h then = then column refl (ap (λ o. unwrap_or o Null) h)
-
 -- a key that is not taken in rows with one more was not taken, and is not that row's
 clear_before : (key : Option ℕ) (first row : List Value) (rows : List (List Value)) → is_key_taken key (placed key first rows) row ≡ false → is_key_taken key rows row ≡ false
 clear_before None first row rows h = refl

@@ -8,7 +8,7 @@ use Rattle.log_tables.specs.declared.gist.Prepared.{Prepared}
 use Rattle.log_tables.specs.Gists.{is_prepared}
 use Rattle.log_tables.specs.Changes.{after_changes, all_apply}
 use Rattle.log_tables.proofs.FoldLemmas.{after_changes-append}
-use Rattle.engine_api.specs.States.{EngineState, Pending, pending_of, without_txn, changes_of, changes_by, xid_of, xid_by, changes_in, prepared_state, committed_state, rolled_back_state, gist_without, without, with_gist}
+use Rattle.engine_api.specs.States.{EngineState, Pending, pending_of, without_txn, changes_of, changes_by, xid_by, changes_in, prepared_state, committed_state, rolled_back_state, gist_without, without, with_gist}
 use Rattle.engine_api.specs.Live.{live_bytes, is_under, IsUnder}
 use Rattle.live_tables.specs.Bytes.{capped}
 use Rattle.live_tables.specs.Folds.{change_bytes}
@@ -87,14 +87,6 @@ prepared_without txn last (Some xid) ts done left ps sound is =
 pub state_rolled_back : (txn last : ℕ) (ts : List Table) (done : List Change) (left : List Prepared) (ps : List Pending) (state : EngineState) → AreSound ts done left ps
     → state_of ts done left ps last ≡ state → state_of ts done left (without_txn txn ps) last ≡ rolled_back_state txn state
 state_rolled_back txn last ts done left ps state sound is = prepared_without txn last (xid_by txn ps) ts done left ps sound refl ∙ ap (rolled_back_state txn) is
-
--- A transaction that is prepared has something pending.
-pub some_under : (txn xid last : ℕ) (ts : List Table) (done : List Change) (left : List Prepared) (ps : List Pending) (state : EngineState) → state_of ts done left ps last ≡ state → IsUnder txn xid state
-    → None ≡ pending_of txn ps → ⊥
-some_under txn xid last ts done left ps state is under none = no (ap xid_of none ∙ ap (λ (s : EngineState). xid_by txn s.pending) is ∙ under)
-  where
-    no : None ≡ Some xid → ⊥
-    no q = cc
 
 -- Its changes are done behind the others, and what is done may go into the tables.
 pub sound_done : (txn : ℕ) (it : Pending) (ts us : List Table) (done behind more : List Change) (left : List Prepared) (ps : List Pending) → AreSound ts done left ps

@@ -46,12 +46,6 @@ pub own_left : (left more : List Prepared) → HaveOwnXids (left ++ more) → Ha
 own_left [] more h = tt
 own_left (p ∷ left) more h = ((or_false (is_prepared p.xid left) (is_prepared p.xid more) (sym (prepared_append p.xid left more) ∙ h.0)).0, own_left left more h.1)
 
--- What is found under an xid that was left stands in the list of what was left.
-pub found_in_left : (xid last : ℕ) (it : Prepared) (ts : List Table) (done : List Change) (left : List Prepared) (ps : List Pending) (s : EngineState) → state_of ts done left ps last ≡ s
-    → list_any (has_under xid) s.pending ≡ false → prepared_with xid s.gist.prepared ≡ Some it → prepared_with xid left ≡ Some it
-found_in_left xid last it ts done left ps s is free found =
-    sym (found_left xid left ps (ap (λ (x : EngineState). list_any (has_under xid) x.pending) is ∙ free)) ∙ ap (λ (x : EngineState). prepared_with xid x.gist.prepared) is ∙ found
-
 -- So something is found there.
 pub some_in_left : (xid last : ℕ) (ts : List Table) (done : List Change) (left : List Prepared) (ps : List Pending) (s : EngineState) → state_of ts done left ps last ≡ s → IsLeft xid s
     → None ≡ prepared_with xid left → ⊥

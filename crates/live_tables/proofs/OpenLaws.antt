@@ -1,5 +1,5 @@
 -- What is pending with and without one transaction: its changes may stand before all others or behind them, and all others without them.
-use Rattle.std.proofs.Common.{◌≡◌, ◌≢◌, ℕ, ◌+◌, List, [], ◌∷◌, ◌++◌, length, Option, Some, None, Bool, true, false, not, ◌||◌, is_some, refl, sym, ap, subst, subst₂, ◌∙◌, inl, inr, ◌⊎◌, arith, sum_by, length-append}
+use Rattle.std.proofs.Common.{◌≡◌, ℕ, ◌+◌, List, [], ◌∷◌, ◌++◌, length, Option, Some, None, Bool, true, false, not, ◌||◌, is_some, refl, sym, ap, subst, subst₂, ◌∙◌, inl, inr, ◌⊎◌, arith, sum_by, length-append}
 use Rattle.std.specs.Prelude.{cond, ◌==◌}
 use Rattle.std.specs.List.{cons_option, find}
 use Rattle.std.specs.Option.{option_or, option_map}
@@ -85,26 +85,6 @@ absent_without txn [] = refl
 absent_without txn (p ∷ ps) = elim (cases (is_by txn p)) [
   | inl own ↦ ap (pending_of txn) (own_out txn p ps own) ∙ absent_without txn ps
   | inr other ↦ ap (pending_of txn) (other_kept txn p ps other) ∙ other_found txn p (without_txn txn ps) other ∙ absent_without txn ps
-]
-
--- what is of one transaction is of no other
-not_by : (txn other : ℕ) (p : Pending) → txn ≢ other → is_by txn p ≡ true → is_by other p ≡ false
-not_by txn other p differ own = elim (cases (is_by other p)) [
-  | inl same ↦ absurd (differ (sym ((Decides-eqb p.txn txn).0 own) ∙ (Decides-eqb p.txn other).0 same))
-  | inr apart ↦ apart
-]
-
--- What another transaction has pending stays.
-pub other_without : (txn other : ℕ) (ps : List Pending) → txn ≢ other → pending_of other (without_txn txn ps) ≡ pending_of other ps
-other_without txn other [] differ = refl
-other_without txn other (p ∷ ps) differ = elim (cases (is_by txn p)) [
-  | inl own ↦
-      ap (pending_of other) (own_out txn p ps own)
-      ∙ other_without txn other ps differ
-      ∙ sym (other_found other p ps (not_by txn other p differ own))
-  | inr kept ↦
-      ap (pending_of other) (other_kept txn p ps kept)
-      ∙ ap (cond (is_by other p) (Some p)) (other_without txn other ps differ)
 ]
 
 -- what is absent is so without any transaction

@@ -1,6 +1,6 @@
 -- What a transaction has pending is found by its place, and taken out there.
 use Rattle.std.proofs.Common.{◌≡◌, ℕ, zero, suc, ◌<◌, List, [], ◌∷◌, ◌++◌, length, get_or, set, take, drop, Option, Some, None, Bool, true, false, position, refl, sym, ap, subst, ◌∙◌, arith, inl, inr}
-use Rattle.std.specs.Prelude.{cond, not, find, slice_get, Result, Ok, Err, OnErr}
+use Rattle.std.specs.Prelude.{cond, not, find, slice_get}
 use Rattle.std.specs.List.{remove, position_or_len}
 use Rattle.std.proofs.lemmas.List.{get_or-set_same, take-set, drop-set-lt}
 use Rattle.std.proofs.lemmas.Bool.{cases_Bool, cond-true, cond-false, eqb-true, ltb-false}
@@ -97,17 +97,3 @@ next_added t xs i old changes c left out distinct unprepared is at more removed 
     ∙ ap (λ (n : ℕ). without_txn t xs ++ (record { txn = n; under = old.under; changes = changes }) ∷ []) same
     ∙ ap (λ (o : Option ℕ). without_txn t xs ++ (record { txn = t; under = o; changes = changes }) ∷ []) under
     ∙ ap (λ (l : List Change). without_txn t xs ++ (record { txn = t; under = None; changes = l }) ∷ []) all
-
--- What is pending comes to stand last, prepared.
-pub prepared_last : (t xid : ℕ) (xs left : List Pending) (it : Pending) → Some it ≡ pending_of t xs → left ≡ without_txn t xs
-    → left ++ (record { txn = it.txn; under = Some xid; changes = it.changes }) ∷ [] ≡ without_txn t xs ++ (record { txn = t; under = Some xid; changes = changes_by t xs }) ∷ []
-prepared_last t xid xs left it found rest =
-    let same : it.txn ≡ t = eqb-true it.txn t (found_passes (is_by t) xs it (sym found)) in
-    ap (λ (l : List Pending). l ++ (record { txn = it.txn; under = Some xid; changes = it.changes }) ∷ []) rest
-    ∙ ap (λ (n : ℕ). without_txn t xs ++ (record { txn = n; under = Some xid; changes = it.changes }) ∷ []) same
-    ∙ ap (λ (o : Option Pending). without_txn t xs ++ (record { txn = t; under = Some xid; changes = changes_of o }) ∷ []) found
-
--- What holds anyway holds after an error.
-pub on_err : {T E P : Type 0} (r : Result T E) → P → OnErr r P
-on_err (Ok x) h = tt
-on_err (Err e) h = h

@@ -1,5 +1,5 @@
 -- What is found by key behind two lists of changes, whether a key is taken there, and whether a change applies.
-use Rattle.std.proofs.Common.{◌≡◌, ℕ, List, ◌++◌, Option, Some, None, true, false, not, ◌&&◌, is_some, is_none, refl, sym, ap, ◌∙◌}
+use Rattle.std.proofs.Common.{◌≡◌, ℕ, List, ◌++◌, Option, Some, None, true, not, ◌&&◌, sym, ap, ◌∙◌}
 use Rattle.std.specs.Option.{option_or}
 use Rattle.sql_value.specs.declared.value.Value.{Value}
 use Rattle.row_format.specs.declared.schema.Schema.{Schema}
@@ -8,10 +8,9 @@ use Rattle.row_format.specs.declared.change.Change.{Change}
 use Rattle.row_format.specs.declared.change.Change.TheVariants.{Insert}
 use Rattle.row_format.specs.Schemas.{same_schema}
 use Rattle.log_tables.specs.declared.table.Table.{Table}
-use Rattle.log_tables.specs.Keys.{key_in, row_with}
 use Rattle.log_tables.specs.Tables.{table_named}
 use Rattle.log_tables.specs.Changes.{after_changes, all_apply, takes}
-use Rattle.engine_api.specs.Live.{schema_found, row_found, row_at, is_key_taken, is_taken_in}
+use Rattle.engine_api.specs.Live.{schema_found, row_found, is_key_taken, is_taken_in}
 use Rattle.live_tables.specs.Folds.{row_added}
 use Rattle.live_tables.proofs.NameLemmas.{takes_is}
 use Rattle.live_tables.proofs.FoldLemmas.{row_after}
@@ -58,49 +57,9 @@ row_second n column key s cs ds ts o fit is keyed none nor found =
     ∙ ap (λ o. option_or o (option_or (row_added n column key cs) (row_added n column key ds))) (sym none)
     ∙ ap (λ o. option_or o (row_added n column key ds)) (sym nor))
 
--- Where there is no schema, there is no row.
-pub row_nowhere : (o : Option Table) (key : Value) → None ≡ schema_found o → None ≡ row_found o key
-row_nowhere None key is = refl
-row_nowhere (Some t) key is = absurd (none_some is)
-
--- Where the table has no key, none is found by key.
-pub row_keyless : (o : Option Table) (key : Value) (s : Schema) → Some s ≡ schema_found o → None ≡ s.key → None ≡ row_found o key
-row_keyless None key s is none = absurd (none_some (sym is))
-row_keyless (Some t) key s is none = ap (λ k. row_at k t.rows key) (none ∙ ap (λ (x : Schema). x.key) (inner is))
-
--- Where there is no schema, no key is taken.
-pub taken_nowhere : (o : Option Table) (row : List Value) → None ≡ schema_found o → false ≡ is_taken_in o row
-taken_nowhere None row is = refl
-taken_nowhere (Some t) row is = absurd (none_some is)
-
--- Where the table has no key, none is taken.
-pub taken_keyless : (o : Option Table) (row : List Value) (s : Schema) → Some s ≡ schema_found o → None ≡ s.key → false ≡ is_taken_in o row
-taken_keyless None row s is none = absurd (none_some (sym is))
-taken_keyless (Some t) row s is none = ap (λ k. is_key_taken k t.rows row) (none ∙ ap (λ (x : Schema). x.key) (inner is))
-
--- The key of a row is taken where a row is found by it.
-pub taken_by_key : (o : Option Table) (row : List Value) (s : Schema) (column : ℕ) (key : Value) → Some s ≡ schema_found o → Some column ≡ s.key → key ≡ key_in column row
-    → is_some (row_found o key) ≡ is_taken_in o row
-taken_by_key None row s column key is keyed read = refl
-taken_by_key (Some t) row s column key is keyed read =
-    let at : Some column ≡ t.definition.schema.key = keyed ∙ ap (λ (x : Schema). x.key) (inner is) in
-    ap (λ k. is_some (row_at k t.rows key)) (sym at)
-    ∙ ap (λ v. is_some (row_with column v t.rows)) read
-    ∙ ap (λ k. is_key_taken k t.rows row) at
-
--- A name is free where it has no schema.
-pub free_found : (o : Option Table) → is_none (schema_found o) ≡ is_none o
-free_found None = refl
-free_found (Some t) = refl
-
 -- An Insert applies where the schema is its own and the key is free.
 pub takes_found : (map : TableMap) (row : List Value) (o : Option Table) (s : Schema) → Some s ≡ schema_found o
     → (same_schema map.schema s && not (is_taken_in o row)) ≡ takes (Insert map row) o
 takes_found map row None s is = absurd (none_some (sym is))
 takes_found map row (Some t) s is =
     ap (λ (x : Schema). same_schema map.schema x && not (is_key_taken t.definition.schema.key t.rows row)) (inner is) ∙ sym (takes_is map row t)
-
--- And it does not where there is no schema.
-pub takes_nowhere : (map : TableMap) (row : List Value) (o : Option Table) → None ≡ schema_found o → false ≡ takes (Insert map row) o
-takes_nowhere map row None is = refl
-takes_nowhere map row (Some t) is = absurd (none_some is)

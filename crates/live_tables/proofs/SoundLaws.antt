@@ -287,12 +287,3 @@ sound_same ts us done more left ps s fit same = record {
   distinct = s.distinct;
   xids = s.xids;
 }
-
--- The first of what is done goes into the tables.
-pub sound_merged : (ts us : List Table) (done first more : List Change) (left : List Prepared) (ps : List Pending) → AreSound ts done left ps → done ≡ first ++ more
-    → us ≡ after_changes first ts → AreSound us more left ps
-sound_merged ts us done first more left ps s split merged =
-    let whole = sym (all_apply_append first more ts) ∙ ap (λ xs. all_apply xs ts) (sym split) ∙ s.done_fit in
-    let parts = and_parts (all_apply first ts) (all_apply more (after_changes first ts)) whole in
-    sound_same ts us done more left ps s (ap (all_apply more) merged ∙ parts.1)
-    (ap (after_changes more) merged ∙ sym (after_changes-append first more ts) ∙ ap (λ xs. after_changes xs ts) (sym split))

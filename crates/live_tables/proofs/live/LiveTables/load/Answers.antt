@@ -1,4 +1,4 @@
-use Rattle.std.proofs.Common.{◌≡◌, ◌∙◌, ◌∷◌, ◌++◌, [], ap, arith}
+use Rattle.std.proofs.Common.{◌∙◌, ◌∷◌, ◌++◌, [], ap, arith}
 use Rattle.live_tables.specs.Live.{Live}
 use Rattle.live_tables.proofs.LoadLemmas.{load_sound, load_counted, load_state}
 use Rattle.live_tables.proofs.live.LiveTables.load.Goals as goal

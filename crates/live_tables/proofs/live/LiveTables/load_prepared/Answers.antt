@@ -1,4 +1,4 @@
-use Rattle.std.proofs.Common.{◌+◌, List, ap, arith, length, subst, sym}
+use Rattle.std.proofs.Common.{◌+◌, List, ap, length, subst, sym}
 use Rattle.row_format.specs.declared.change.Change.{Change}
 use Rattle.log_tables.specs.declared.gist.Prepared.{Prepared}
 use Rattle.live_tables.specs.Live.{Live, AreSound, AreCounted}
