@@ -4,3 +4,4 @@ pub mod Bytes
 pub mod Opens
 pub mod Live
 pub mod Loads
+pub mod Alone

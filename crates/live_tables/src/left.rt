@@ -55,7 +55,8 @@ impl LiveTables {
         requires fits { (it : Left) → prepared_with xid self.old.state.gist.prepared ≡ Some it
             → all_apply it.changes self.old.state.gist.tables ≡ true }
         ensures { (it : Left) → prepared_with xid self.old.state.gist.prepared ≡ Some it
-            → self.new.state ≡ with_gist (after_commit it number self.old.state.gist) self.old.state }
+            → self.new.state
+            ≡ with_gist (after_commit it number self.old.state.gist) self.old.state }
     {
         if let Some(it) = take_left(&mut self.left, xid) {
             let changes = it.changes.into_changes();

@@ -17,6 +17,8 @@ mod pending;
 mod seek;
 mod stored;
 mod tables;
+#[cfg(test)]
+mod tests;
 mod write;
 
 pub use live::LiveTables;

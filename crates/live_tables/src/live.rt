@@ -49,7 +49,8 @@ impl Model for LiveTables {
     } };
 
     ghost invariant = { λ l. AreSound l.tables.items l.done.items l.left.items l.pending.items
-        × AreCounted l.tables.items l.done.items l.left.items l.pending.items l.committed l.opened l.waiting
+        × AreCounted l.tables.items l.done.items l.left.items l.pending.items
+        l.committed l.opened l.waiting
         × (vec_len l.done + l.waiting ≤ vec_capacity l.done) };
 }
 

@@ -102,8 +102,11 @@ pub(crate) fn add_change(
 ) -> Result<(), AllocError>
     requires distinct { AreDistinct pending.old.items }
     requires unprepared { xid_by txn pending.old.items ≡ None }
-    ensures ok { OnOk result (pending.new.items ≡ without_txn txn pending.old.items
-        ++ (record { txn = txn; under = None; changes = changes_by txn pending.old.items ++ change ∷ [] }) ∷ []) }
+    ensures ok { OnOk result (pending.new.items ≡ without_txn txn pending.old.items ++ (record {
+      txn = txn;
+      under = None;
+      changes = changes_by txn pending.old.items ++ change ∷ [];
+    }) ∷ []) }
     ensures none { OnErr result (pending.new.items ≡ pending.old.items) }
 {
     let Some(i) = place_of(pending, txn) else {
@@ -119,8 +122,11 @@ pub(crate) fn add_change(
 pub(crate) fn prepare(pending: &mut Vec<Open>, alloc: Global, txn: u32, xid: u64)
     requires distinct { AreDistinct pending.old.items }
     requires room { vec_len pending.old < vec_capacity pending.old }
-    ensures { pending.new.items ≡ without_txn txn pending.old.items
-        ++ (record { txn = txn; under = Some xid; changes = changes_by txn pending.old.items }) ∷ [] }
+    ensures { pending.new.items ≡ without_txn txn pending.old.items ++ (record {
+      txn = txn;
+      under = Some xid;
+      changes = changes_by txn pending.old.items;
+    }) ∷ [] }
 {
     let changes = match take(pending, txn) {
         Some(it) => it.changes,
@@ -137,7 +143,8 @@ pub(crate) fn prepare(pending: &mut Vec<Open>, alloc: Global, txn: u32, xid: u64
 ///
 /// `AllocError` for want of memory.
 pub(crate) fn add_xids(pending: &[Open], xids: &mut Vec<u64>) -> Result<(), AllocError>
-    ensures { OnOk result (xids.new.items ≡ xids.old.items ++ map (λ it. it.xid) (shares pending.now)) }
+    ensures { OnOk result (xids.new.items
+        ≡ xids.old.items ++ map (λ it. it.xid) (shares pending.now)) }
 {
     for it in pending {
         if let Some(xid) = it.under {

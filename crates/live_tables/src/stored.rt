@@ -176,7 +176,8 @@ impl Stored {
     /// Adds a row that was made for this schema, where it is the table's and the key is free. Without memory the change is handed back,
     /// and all is as it was.
     pub(crate) fn insert(&mut self, map: TableMap, row: Row) -> Result<(), Change>
-        ensures ok { OnOk result (self.new ≡ with_rows self.old (rows_after (Insert map row) self.old)) }
+        ensures ok { OnOk result (self.new
+            ≡ with_rows self.old (rows_after (Insert map row) self.old)) }
         ensures none { OnErr result (self.new ≡ self.old) }
         ensures given_back { IfErr result (λ it. it ≡ Insert map row) }
     {

@@ -35,7 +35,8 @@ impl LiveTables {
         requires applies { applies change (live_tables self.old.state) ≡ true }
         requires unprepared { is_under txn self.old.state ≡ false }
         requires apart { IsApart txn change self.old.state }
-        ensures adds { Adds result (with_change txn change self.old.state) self.old.state self.new.state }
+        ensures adds { Adds result (with_change txn change self.old.state)
+            self.old.state self.new.state }
         ensures answers { AnswersAlone (Full ∷ []) result }
     {
         let more = change_len(&change);
@@ -62,7 +63,8 @@ impl LiveTables {
         requires free { live_schema table.now self.old.state ≡ None }
         requires unprepared { is_under txn self.old.state ≡ false }
         requires apart { IsApart txn (Create table.now engine.now schema.now) self.old.state }
-        ensures adds { Adds result (with_change txn (Create table.now engine.now schema.now) self.old.state)
+        ensures adds { Adds result
+            (with_change txn (Create table.now engine.now schema.now) self.old.state)
             self.old.state self.new.state }
         ensures answers { AnswersAlone (Full ∷ []) result }
     {
@@ -110,9 +112,11 @@ impl LiveTables {
             (insert_into table.now (live_schema table.now self.old.state) row.now) self.old.state }
         ensures adds { Adds result (wrote_state txn table.now row.now self.old.state)
             self.old.state self.new.state }
-        ensures duplicate { result ≡ Err (code Duplicate) → IsTrue (is_taken table.now row.now self.old.state) }
+        ensures duplicate { result ≡ Err (code Duplicate)
+            → IsTrue (is_taken table.now row.now self.old.state) }
         ensures not_duplicate { OnOk result (is_taken table.now row.now self.old.state ≡ false) }
-        ensures free { result ≡ Err (code Full) → is_taken table.now row.now self.old.state ≡ false }
+        ensures free { result ≡ Err (code Full)
+            → is_taken table.now row.now self.old.state ≡ false }
         ensures answers { AnswersAlone (Duplicate ∷ Full ∷ []) result }
     {
         if self.is_taken(table, row) {
