@@ -1,0 +1,6 @@
+-- A count that stops at the greatest number of 64 bits. (This project.)
+use Rattle.std.specs.Prelude.{ℕ, ◌-◌, ◌^◌, min}
+
+-- the number, or the greatest one
+abbrev pub capped : ℕ → ℕ
+capped n = min n (2 ^ 64 - 1)

@@ -1,0 +1,7 @@
+pub mod Stored
+pub mod Folds
+pub mod Bytes
+pub mod Opens
+pub mod Live
+pub mod Loads
+pub mod Alone
