@@ -19,3 +19,4 @@ pub mod FitLemmas
 pub mod AddLemmas
 pub mod FinishLemmas
 pub mod LoadLemmas
+pub mod StateLemmas

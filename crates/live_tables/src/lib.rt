@@ -10,6 +10,7 @@ mod behind;
 mod bytes;
 mod copies;
 mod finish;
+mod laws;
 mod left;
 mod live;
 mod load;

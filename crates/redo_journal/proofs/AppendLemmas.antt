@@ -1,9 +1,10 @@
 -- The exits of the calls that write to a journal.
 use Rattle.std.proofs.Common.{◌≡◌, ℕ, ◌+◌, ◌≤◌, Option, Some, None, List, [], length, Result, Ok, Err, OnOk, IsTrue, refl, sym, ◌∙◌, ap, subst, arith}
+use Rattle.std.specs.Prelude.{is_some}
 use Rattle.disk_model.specs.declared.storage.Failed.{Failed}
 use Rattle.disk_model.specs.File.{File, Writes, Syncs, IsSettled}
 use Rattle.disk_model.specs.Disk.{Disk, now, contents, Called, Keeps}
-use Rattle.disk_model.proofs.Moments.{started, both, weaker}
+use Rattle.disk_model.proofs.Moments.{started, both, weaker, done_ok}
 use Rattle.framed_file.proofs.PrefixLemmas.{prefix_refl, prefix_push}
 use Rattle.redo_journal.specs.declared.record.Record.{Record}
 use Rattle.redo_journal.specs.declared.journal.Area.{Area}
@@ -12,7 +13,7 @@ use Rattle.framed_file.specs.Framed.{header_len}
 use Rattle.redo_journal.specs.Replays.{start, after_records, Fits, AllFit}
 use Rattle.redo_journal.specs.Journals.{Holds, OnlyBoth, file_on, IsBehind, IsJournalOn, IsJournal, IsKeptIn, IsKept}
 use Rattle.redo_journal.specs.Making.{Makes}
-use Rattle.redo_journal.specs.Appending.{Spells, FitsBehind, with_one, IsFirst, GoesTo, Admits, IsNextFrame, HasFiles, KeepsAll, KeepsMore, KeepsSynced, LosesNone, LosesNoneBehind, OfFrame}
+use Rattle.redo_journal.specs.Appending.{Spells, FitsBehind, with_one, IsFirst, GoesTo, Admits, IsNextFrame, HasFiles, KeepsAll, KeepsMore, KeepsSynced, SettlesFile, has_area, file_with, open_file, LosesNone, LosesNoneBehind, OfFrame}
 use Rattle.redo_journal.proofs.AreaLemmas.{length-area_of}
 use Rattle.redo_journal.proofs.SideLemmas.{holds_wider}
 use Rattle.redo_journal.proofs.KeptLemmas.{behind_of, kept_of, journal_of, on_of, kept_holds, spelt_room, next_behind, write_moments, write_kept, sync_moments, sync_kept, begin_moments, begin_behind, begin_kept, begin_settled}
@@ -28,10 +29,22 @@ sync_ok journal it old new file (Ok v) is file_is called = λ wanted synced reco
 }
 sync_ok journal it old new file (Err e) is file_is called = tt
 
+pub sync_settles : (journal : Journal) (it : Area) (old new : Disk) (file : ℕ) (result : Result Unit Failed) → journal.area ≡ Some it → file ≡ file_on it.side journal.first_file → Called file (Syncs result) result old new
+    → OnOk result (SettlesFile journal new)
+sync_settles journal it old new file (Ok v) is file_is called = λ told there.
+    let synced = (done_ok old new file (Syncs (Ok v)) v (subst IsTrue called.told told) called).ok in
+    let here : file ≡ open_file journal = file_is ∙ ap (λ (o : Option Area). file_with o journal.first_file) (sym is) in
+    subst (λ (n : ℕ). IsSettled (now new n)) here (subst IsSettled (sym synced) (record { synced = refl; steps = refl }))
+sync_settles journal it old new file (Err e) is file_is called = tt
+
 pub sync_holds : (journal : Journal) (it : Area) (old new : Disk) (file : ℕ) (result : Result Unit Failed) → journal.area ≡ Some it → file ≡ file_on it.side journal.first_file → Called file (Syncs result) result old new
     → LosesNone journal old new
 sync_holds journal it old new file result is file_is called = λ wanted synced records told kept.
     sync_moments it wanted synced records journal.first_file (behind_of journal.area it records is kept.is) old new file result told (kept_of journal.area it wanted synced records journal.first_file (now old) is kept.kept) file_is called
+
+-- with no area there is none open
+pub no_area : {P : Type 0} (journal : Journal) → journal.area ≡ None → IsTrue (has_area journal) → P
+no_area journal none there = absurd (let no = sym (ap is_some none) ∙ there in cc)
 
 -- no call
 pub rest_holds : (journal : Journal) (d : Disk) → LosesNone journal d d

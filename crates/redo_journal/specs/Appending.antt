@@ -1,5 +1,6 @@
 -- What is written of a record, and how the journal goes on behind it. (This project.)
 use Rattle.std.specs.Prelude.{◌≡◌, ℕ, List, [], ◌∷◌, ◌++◌, Option, Some, None, Bool, is_some, IsTrue}
+use Rattle.disk_model.specs.File.{IsSettled}
 use Rattle.disk_model.specs.Disk.{Disk, now, Keeps}
 use Rattle.frame_codec.specs.Frame.{checksum_of, frame_of}
 use Rattle.framed_file.specs.Framed.{header_len}
@@ -104,6 +105,10 @@ KeepsMore it old before new after = OfMore it old before (λ wanted synced recor
 -- the files hold the same records, all of them synced
 abbrev pub KeepsSynced : Journal → Disk → Journal → Disk → Type 0
 KeepsSynced old before new after = OfKept old before (λ wanted synced records. IsKept new wanted records records (now after))
+
+-- where contents are told and an area is open, nothing is pending in its file
+abbrev pub SettlesFile : Journal → Disk → Type 0
+SettlesFile journal disk = IsTrue disk.told → IsTrue (has_area journal) → IsSettled (now disk (open_file journal))
 
 -- at each moment a crash leaves, of the journal's two files, all synced records of these and a first part of the others
 abbrev pub Leaves : Journal → Disk → Disk → Option ℕ → List Record → List Record → Type 0

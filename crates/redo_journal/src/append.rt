@@ -10,7 +10,7 @@ ghost use Rattle.redo_journal.specs.declared.record.Record.{Record as Entry};
 ghost use Rattle.redo_journal.specs.declared.fault.JournalFault.TheVariants.{Device, NotAVolume, Memory};
 ghost use Rattle.redo_journal.specs.Replays.{start, after_records, Fits, AllFit};
 ghost use Rattle.redo_journal.specs.Journals.{first_file_of};
-ghost use Rattle.redo_journal.specs.Appending.{Spells, has_area, GoesTo, Admits, IsNextFrame, HasFiles, StandsAsBefore, StandsForMore, KeepsAll, KeepsMore, KeepsSynced, LosesNone, LosesNoneBehind, OfFrame};
+ghost use Rattle.redo_journal.specs.Appending.{Spells, has_area, GoesTo, Admits, IsNextFrame, HasFiles, StandsAsBefore, StandsForMore, KeepsAll, KeepsMore, KeepsSynced, SettlesFile, LosesNone, LosesNoneBehind, OfFrame};
 ghost use Rattle.redo_journal.specs.Reading.{is_short};
 ghost use Rattle.redo_journal.specs.Spelt.{spelt_bytes, spelt_sum};
 
@@ -184,6 +184,7 @@ impl Journal {
         ensures same { self.new ≡ self.old }
         ensures ok { OnOk result
             (KeepsSynced self.old (disk volume.old) self.new (disk volume.new)) }
+        ensures settled { OnOk result (SettlesFile self.old (disk volume.new)) }
         ensures any_moment { LosesNone self.old (disk volume.old) (disk volume.new) }
         ensures device { HasCause IsErr result (disk volume.old) (disk volume.new) }
         ensures device_calls { (disk volume.new).calls ≤ (disk volume.old).calls + 1 }

@@ -1,0 +1,4 @@
+pub mod Engine
+pub mod Writing
+pub mod Replaying
+pub mod Recording
