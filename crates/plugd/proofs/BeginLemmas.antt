@@ -6,7 +6,7 @@ use Rattle.std.specs.declared.alloc.Global.{Global}
 use Rattle.std.specs.declared.string.String.{String}
 use Rattle.disk_model.specs.Disk.{Disk, now, contents, Keeps, Only}
 use Rattle.disk_model.proofs.Moments.{weaker}
-use Rattle.binlog_file.specs.declared.transaction.Transaction.{Transaction}
+use Rattle.row_format.specs.declared.change.Transaction.{Transaction}
 use Rattle.binlog_file.specs.Logged.{IsLogged, Holds}
 use Rattle.binlog_file.specs.Binlog.{flushed_of, end_in}
 use Rattle.binlog_file.specs.Opening.{IsSafe, OpensFor}

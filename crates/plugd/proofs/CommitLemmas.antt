@@ -1,59 +1,62 @@
 -- What a commit spells is what it writes.
-use Rattle.std.proofs.Common.{◌≡◌, ℕ, ℤ, ◌+◌, ◌-◌, ◌^◌, ◌<◌, ◌≤◌, List, [], ◌∷◌, ◌++◌, length, Ok, FitsSigned, to_z, of_z, sym, ◌∙◌, ap, subst, arith, IsTrue}
-use Rattle.std.specs.Int.{w64}
+use Rattle.std.proofs.Common.{◌≡◌, ℕ, ◌+◌, ◌-◌, ◌^◌, ◌<◌, ◌≤◌, List, [], ◌∷◌, ◌++◌, length, Ok, sym, refl, ◌∙◌, ap, subst, arith, IsTrue}
+use Rattle.std.specs.Prelude.{sum_by}
 use Rattle.std.specs.declared.vec.Vec.{Vec}
 use Rattle.std.specs.declared.alloc.Global.{Global}
 use Rattle.std.proofs.lemmas.List.{map-append}
-use Rattle.std.proofs.lemmas.Int.{to_z-of_z}
+use Rattle.std.proofs.lemmas.List.Sums.{sum_by-cons}
+use Rattle.frame_codec.specs.Frame.{Event, size_of}
 use Rattle.frame_codec.specs.Chain.{chain_of, end_of}
 use Rattle.disk_model.specs.Disk.{Disk}
+use Rattle.row_format.specs.declared.change.Change.{Change}
+use Rattle.row_format.specs.declared.change.Transaction.{Transaction}
+use Rattle.row_format.specs.Changes.{AreFitChanges}
+use Rattle.binlog_events.specs.Transaction.{events_of}
 use Rattle.binlog_file.specs.declared.binlog.Binlog.{Binlog}
-use Rattle.binlog_file.specs.declared.transaction.Change.TheVariants.{Insert}
-use Rattle.binlog_file.specs.declared.transaction.Transaction.{Transaction}
-use Rattle.binlog_file.specs.Transaction.{events_of}
 use Rattle.binlog_file.specs.Binlog.{Carries, end_in}
 use Rattle.binlog_file.proofs.LoggedLemmas.{all_events_one}
-use Rattle.binlog_file.proofs.TransactionLemmas.{events_size}
 use Rattle.binlog_file.proofs.CallLemmas.{carried_size}
 use Rattle.plugd.specs.declared.reply.Reply.{Reply}
 use Rattle.plugd.specs.declared.server.Server.{Server}
-use Rattle.plugd.specs.Play.{insert_size}
+use Rattle.plugd.specs.Play.{logged_size}
 use Rattle.plugd.specs.Xids.{xids_of, IsNextXid}
 use Rattle.plugd.specs.declared.ack.Ack.{Ack}
 use Rattle.plugd.specs.declared.xids.XidSet.{XidSet}
 use Rattle.plugd.specs.XidSet.{Knows}
 use Rattle.plugd.specs.Commit.{AtRest, Writes, LogsOne, Commits}
 
--- an insert, as a transaction
-abbrev pub insert : ℕ → ℤ → List ℕ → Transaction
-insert xid key text = record { xid = xid; change = Insert key text }
+-- changes, as a transaction
+abbrev pub of_changes : ℕ → List Change → Transaction
+of_changes xid changes = record { xid = xid; changes = changes }
 
-pub fits : (at len room limit : ℕ) (xid : ℕ) (key : ℤ) (text : List ℕ) → at ≡ len → room ≡ limit - len → limit ≤ 2147483647
-    → 124 + length text ≤ room → end_of at (events_of (insert xid key text)) ≤ 2147483647
-fits at len room limit xid key text at_is room_is small large = let size = events_size at xid key text in omega (arith, at_is, room_is, small, large, size)
+-- where frames end: so many bytes behind their start
+ends_behind : (at : ℕ) (events : List Event) → end_of at events ≡ at + sum_by size_of events
+ends_behind at [] = omega arith
+ends_behind at (event ∷ events) = omega (arith, ends_behind (at + size_of event) events, sum_by-cons size_of event events)
 
-pub has_room : (len room limit : ℕ) (text : List ℕ) → room ≡ limit - len → 124 + length text ≤ room → len + insert_size text ≤ limit
-has_room len room limit text room_is large = omega (arith, room_is, large)
-
-pub no_room : (len room limit : ℕ) (text : List ℕ) → room ≡ limit - len → room < 124 + length text → limit < len + insert_size text
-no_room len room limit text room_is small = omega (arith, room_is, small)
+-- where those of a transaction end
+pub events_end : (at xid : ℕ) (changes : List Change) (size : ℕ) → ((x : ℕ) → size ≡ sum_by size_of (events_of (of_changes x changes)))
+    → (end_of at (events_of (of_changes xid changes)) ≡ at + size) × (size ≡ logged_size changes)
+events_end at xid changes size is = (omega (arith, ends_behind at (events_of (of_changes xid changes)), is xid), is 0)
 
 -- the bytes that were spelt are those of the transaction
-pub spelt : (log : Binlog) (at prev xid : ℕ) (key : ℤ) (text spelling cleared : List ℕ) → at ≡ log.len → prev ≡ log.crc → xid < 2 ^ 64 → FitsSigned w64 key → length text ≤ 10
-    → log.len + insert_size text ≤ 2147483647 → cleared ≡ [] → spelling ≡ cleared ++ chain_of prev at (events_of (insert xid (to_z w64 (of_z w64 key)) text))
-    → Carries log spelling (insert xid key text ∷ [])
-spelt log at prev xid key text spelling cleared at_is prev_is small fits short room none is = record {
-  fit = (record { xid = small; change = (fits, short) }, tt);
-  spelt = is ∙ ap (λ (c : List ℕ). c ++ chain_of prev at (events_of (insert xid (to_z w64 (of_z w64 key)) text))) none
-      ∙ ap (λ (k : ℤ). chain_of prev at (events_of (insert xid k text))) (to_z-of_z w64 key fits)
-      ∙ ap (λ (a : ℕ). chain_of prev a (events_of (insert xid key text))) at_is ∙ ap (λ (p : ℕ). chain_of p log.len (events_of (insert xid key text))) prev_is
-      ∙ ap (chain_of log.crc log.len) (sym (all_events_one (insert xid key text)));
-  ends = let one = ap (end_of log.len) (all_events_one (insert xid key text)) in let size = events_size log.len xid key text in omega (arith, one, size, room);
+pub spelt : (log : Binlog) (at prev xid size : ℕ) (changes : List Change) (spelling cleared : List ℕ) → at ≡ log.len → prev ≡ log.crc → xid < 2 ^ 64 → 0 < length changes → AreFitChanges changes
+    → ((x : ℕ) → size ≡ sum_by size_of (events_of (of_changes x changes))) → log.len + size ≤ 2147483647 → cleared ≡ []
+    → spelling ≡ cleared ++ chain_of prev at (events_of (of_changes xid changes)) → Carries log spelling (of_changes xid changes ∷ [])
+spelt log at prev xid size changes spelling cleared at_is prev_is small some fit sized room none is = record {
+  fit = (record { xid = small; some = some; changes = fit }, tt);
+  spelt = is ∙ ap (λ (c : List ℕ). c ++ chain_of prev at (events_of (of_changes xid changes))) none
+      ∙ ap (λ (a : ℕ). chain_of prev a (events_of (of_changes xid changes))) at_is ∙ ap (λ (p : ℕ). chain_of p log.len (events_of (of_changes xid changes))) prev_is
+      ∙ ap (chain_of log.crc log.len) (sym (all_events_one (of_changes xid changes)));
+  ends = let one = ap (end_of log.len) (all_events_one (of_changes xid changes)) in let end = events_end log.len xid changes size sized in omega (arith, one, end.0, room);
 }
 
 -- and so many
-pub spelt_size : (log : Binlog) (xid : ℕ) (key : ℤ) (text spelling : List ℕ) → Carries log spelling (insert xid key text ∷ []) → log.len + length spelling ≡ log.len + insert_size text
-spelt_size log xid key text spelling carries = carried_size log spelling (insert xid key text ∷ []) carries ∙ ap (end_of log.len) (all_events_one (insert xid key text)) ∙ events_size log.len xid key text
+pub spelt_size : (log : Binlog) (xid size : ℕ) (changes : List Change) (spelling : List ℕ) → ((x : ℕ) → size ≡ sum_by size_of (events_of (of_changes x changes)))
+    → Carries log spelling (of_changes xid changes ∷ []) → log.len + length spelling ≡ log.len + logged_size changes
+spelt_size log xid size changes spelling sized carries =
+    let end = events_end log.len xid changes size sized in
+    omega (arith, carried_size log spelling (of_changes xid changes ∷ []) carries, ap (end_of log.len) (all_events_one (of_changes xid changes)), end.0, end.1)
 
 -- the server that writes: the same one, with the xid given and the transaction spelt
 abbrev pub ready : Server → XidSet → Vec Ack Global → Vec ℕ Global → Server
@@ -63,10 +66,10 @@ ready old xids acks spelling = record { alloc = old.alloc; log = old.log; xids =
 abbrev pub Gave : Server → XidSet → ℕ → Type 0
 Gave old xids xid = (used : List ℕ) → Knows old.xids used → IsNextXid used xid × Knows xids (used ++ xid ∷ [])
 
-pub commits : (key : ℤ) (text : List ℕ) (old new : Server) (xids : XidSet) (acks : Vec Ack Global) (spelling : Vec ℕ Global) (reply : Reply) (start end : Disk) (xid : ℕ)
-    → Writes (ready old xids acks spelling) new reply start end → acks.items ≡ old.acks.items → end_in old.log + insert_size text ≤ old.limit
-    → Carries old.log spelling.items (insert xid key text ∷ []) → Gave old xids xid → Commits key text old new (Ok reply) start end
-commits key text old new xids acks spelling reply start end xid w same has carries gave = record {
+pub commits : (changes : List Change) (size : ℕ) (old new : Server) (xids : XidSet) (acks : Vec Ack Global) (spelling : Vec ℕ Global) (reply : Reply) (start end : Disk) (xid : ℕ)
+    → Writes (ready old xids acks spelling) new reply start end → acks.items ≡ old.acks.items → end_in old.log + logged_size changes ≤ old.limit
+    → ((x : ℕ) → size ≡ sum_by size_of (events_of (of_changes x changes))) → Carries old.log spelling.items (of_changes xid changes ∷ []) → Gave old xids xid → Commits changes old new (Ok reply) start end
+commits changes size old new xids acks spelling reply start end xid w same has sized carries gave = record {
   same = record { lines = w.same.lines; limit = w.same.limit };
   counts = w.counts;
   spent = λ is. absurd (w.not_spent (let e = is in cc));
@@ -78,13 +81,13 @@ commits key text old new xids acks spelling reply start end xid w same has carri
       acks = (d.0).acks ∙ ap (λ (l : List Ack). l ++ (record { number = number; call = end.calls }) ∷ []) same;
       serving = (d.0).serving;
     },
-    d.1 ∙ spelt_size old.log xid key text spelling.items carries,
+    d.1 ∙ spelt_size old.log xid size changes spelling.items sized carries,
     λ list told rest. (
       logs list told rest,
       record {
-        durable = d.2 list (insert xid key text) told carries rest.durable;
-        knows = subst (λ (set : XidSet). Knows set (xids_of (list ++ insert xid key text ∷ []))) (sym w.xids)
-            (subst (Knows xids) (sym (map-append (λ (t : Transaction). t.xid) list (insert xid key text ∷ []))) (gave (xids_of list) rest.knows).1);
+        durable = d.2 list (of_changes xid changes) told carries rest.durable;
+        knows = subst (λ (set : XidSet). Knows set (xids_of (list ++ of_changes xid changes ∷ []))) (sym w.xids)
+            (subst (Knows xids) (sym (map-append (λ (t : Transaction). t.xid) list (of_changes xid changes ∷ []))) (gave (xids_of list) rest.knows).1);
       },
     ),
   );
@@ -93,9 +96,9 @@ commits key text old new xids acks spelling reply start end xid w same has carri
   memory = tt;
 }
   where
-    logs : (list : List Transaction) → IsTrue start.told → AtRest old list start → LogsOne key text old list start end
+    logs : (list : List Transaction) → IsTrue start.told → AtRest old list start → LogsOne changes old list start end
     logs list told rest = record {
       xid = xid;
       next = (gave (xids_of list) rest.knows).0;
-      moments = w.moments list (insert xid key text) told carries rest.durable;
+      moments = w.moments list (of_changes xid changes) told carries rest.durable;
     }

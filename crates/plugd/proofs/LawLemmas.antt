@@ -5,7 +5,7 @@ use Rattle.std.specs.declared.string.String.{String}
 use Rattle.fault_counts.specs.Rose.{Rose}
 use Rattle.disk_model.specs.File.{File}
 use Rattle.disk_model.specs.Disk.{Disk, now, contents}
-use Rattle.binlog_file.specs.declared.transaction.Transaction.{Transaction}
+use Rattle.row_format.specs.declared.change.Transaction.{Transaction}
 use Rattle.frame_codec.specs.Chain.{chain_of}
 use Rattle.framed_file.specs.Framed.{IsPrefix, header_len}
 use Rattle.binlog_file.specs.declared.fault.BinlogFault.{BinlogFault}

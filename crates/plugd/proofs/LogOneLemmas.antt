@@ -4,7 +4,7 @@ use Rattle.std.proofs.lemmas.List.{take_all, take-append-le}
 use Rattle.disk_model.specs.Disk.{Disk, now, Keeps, Only}
 use Rattle.disk_model.proofs.Moments.{both, weaker}
 use Rattle.binlog_file.specs.declared.binlog.Binlog.{Binlog}
-use Rattle.binlog_file.specs.declared.transaction.Transaction.{Transaction}
+use Rattle.row_format.specs.declared.change.Transaction.{Transaction}
 use Rattle.binlog_file.specs.Logged.{Holds}
 use Rattle.binlog_file.specs.Binlog.{durable_of, Carries}
 use Rattle.plugd.specs.LogOne.{IsDurable}

@@ -6,8 +6,8 @@ use Rattle.disk_model.specs.File.{File}
 use Rattle.disk_model.specs.Disk.{Disk, now, Keeps, Only}
 use Rattle.disk_model.proofs.Moments.{both, weaker}
 use Rattle.framed_file.specs.Framed.{IsPrefix}
-use Rattle.binlog_file.specs.declared.transaction.Change.{Change}
-use Rattle.binlog_file.specs.declared.transaction.Transaction.{Transaction}
+use Rattle.row_format.specs.declared.change.Change.{Change}
+use Rattle.row_format.specs.declared.change.Transaction.{Transaction}
 use Rattle.binlog_file.specs.Logged.{log_of, log_end, log_checksum, IsLogged, Holds}
 use Rattle.binlog_file.specs.Binlog.{IsLog}
 use Rattle.binlog_file.specs.declared.binlog.Binlog.{Binlog}
@@ -93,10 +93,10 @@ joined found asked t = append_assoc found asked (t ∷ [])
 -- one transaction more was asked for, and the device failed at it
 pub safe_halted : (start : Disk) (found asked : List Transaction) (state : State) (acks : List Ack) (d₀ d₁ : Disk) (t : Transaction) (line : ℕ) → Safe start found asked state acks d₀ → state.met ≡ None
     → IsNextXid (xids_of (found ++ asked)) t.xid → Keeps d₀ d₁ (Only 0 (now d₀) (Holds (found ++ asked) ((found ++ asked) ++ t ∷ [])))
-    → Safe start found (asked ++ t ∷ []) (record { line = line; count = state.count; len = state.len; changes = state.changes; met = Some t.change }) acks d₁
+    → Safe start found (asked ++ t ∷ []) (record { line = line; count = state.count; len = state.len; changes = state.changes; met = Some t.changes }) acks d₁
 safe_halted start found asked state acks d₀ d₁ t line is serves next run = record {
-  changes_are = map-append (λ (u : Transaction). u.change) asked (t ∷ [])
-      ∙ ap (λ (l : List Change). l ++ t.change ∷ []) (is.changes_are ∙ ap (λ (o : Option Change). state.changes ++ option_to_list o) serves ∙ append-nil state.changes);
+  changes_are = map-append (λ (u : Transaction). u.changes) asked (t ∷ [])
+      ∙ ap (λ (l : List (List Change)). l ++ t.changes ∷ []) (is.changes_are ∙ ap (λ (o : Option (List Change)). state.changes ++ option_to_list o) serves ∙ append-nil state.changes);
   count = is.count;
   given = subst (AreGiven (xids_of found)) (sym (xids_of-append asked (t ∷ []))) (given_push (xids_of found) (xids_of asked) t.xid is.given (subst (λ (l : List ℕ). IsNextXid l t.xid) (xids_of-append found asked) next));
   moments = subst (λ (l : List Transaction). Keeps start d₁ (Only 0 (now start) (StandsIn (now start 0) found l))) (joined found asked t) (more_moments start d₀ d₁ found (found ++ asked) t (asked, refl) is.moments run);
@@ -108,10 +108,10 @@ safe_halted start found asked state acks d₀ d₁ t line is serves next run = r
 pub safe_logged : (start : Disk) (found asked : List Transaction) (state : State) (acks : List Ack) (d₀ d₁ : Disk) (t : Transaction) (line len : ℕ) (log : Binlog) (ack : Ack) → Safe start found asked state acks d₀ → state.met ≡ None
     → IsNextXid (xids_of (found ++ asked)) t.xid → Keeps d₀ d₁ (Only 0 (now d₀) (Holds (found ++ asked) ((found ++ asked) ++ t ∷ [])))
     → IsDurable log ((found ++ asked) ++ t ∷ []) d₁ → ack.number ≡ state.count + 1 → ack.call ≡ d₁.calls
-    → Safe start found (asked ++ t ∷ []) (record { line = line; count = state.count + 1; len = len; changes = state.changes ++ t.change ∷ []; met = None }) (acks ++ ack ∷ []) d₁
+    → Safe start found (asked ++ t ∷ []) (record { line = line; count = state.count + 1; len = len; changes = state.changes ++ t.changes ∷ []; met = None }) (acks ++ ack ∷ []) d₁
 safe_logged start found asked state acks d₀ d₁ t line len log ack is serves next run durable number call = record {
-  changes_are = halted.changes_are ∙ sym (append-nil (state.changes ++ t.change ∷ []));
-  count = omega (arith, is.count, length-append state.changes (t.change ∷ []));
+  changes_are = halted.changes_are ∙ sym (append-nil (state.changes ++ t.changes ∷ []));
+  count = omega (arith, is.count, length-append state.changes (t.changes ∷ []));
   given = halted.given;
   moments = halted.moments;
   acks_kept = are_kept_push (found ++ (asked ++ t ∷ [])) d₁ acks ack halted.acks_kept (kept_now log (found ++ (asked ++ t ∷ [])) d₁ ack durable₂
@@ -119,11 +119,11 @@ safe_logged start found asked state acks d₀ d₁ t line len log ack is serves 
   whole = λ none. rest_logged log (found ++ (asked ++ t ∷ [])) (now d₁ 0) durable₂.is_log;
 }
   where
-    halted : Safe start found (asked ++ t ∷ []) (record { line = line; count = state.count; len = state.len; changes = state.changes; met = Some t.change }) acks d₁
+    halted : Safe start found (asked ++ t ∷ []) (record { line = line; count = state.count; len = state.len; changes = state.changes; met = Some t.changes }) acks d₁
     halted = safe_halted start found asked state acks d₀ d₁ t line is serves next run
 
     durable₂ : IsDurable log (found ++ (asked ++ t ∷ [])) d₁
     durable₂ = subst (λ (l : List Transaction). IsDurable log l d₁) (joined found asked t) durable
 
     asked_count : length asked ≡ length state.changes
-    asked_count = sym (length-map asked (λ (u : Transaction). u.change)) ∙ ap length (is.changes_are ∙ ap (λ (o : Option Change). state.changes ++ option_to_list o) serves ∙ append-nil state.changes)
+    asked_count = sym (length-map asked (λ (u : Transaction). u.changes)) ∙ ap length (is.changes_are ∙ ap (λ (o : Option (List Change)). state.changes ++ option_to_list o) serves ∙ append-nil state.changes)

@@ -4,8 +4,8 @@ use Rattle.std.specs.declared.alloc.AllocError.{AllocError}
 use Rattle.std.proofs.lemmas.List.{append-nil, map-append}
 use Rattle.fault_counts.specs.Rose.{Rose}
 use Rattle.disk_model.specs.Disk.{Disk}
-use Rattle.binlog_file.specs.declared.transaction.Change.TheVariants as change
-use Rattle.binlog_file.specs.declared.transaction.Transaction.{Transaction}
+use Rattle.row_format.specs.declared.change.Change.{Change}
+use Rattle.row_format.specs.declared.change.Transaction.{Transaction}
 use Rattle.binlog_file.specs.Binlog.{IsOpen, end_in}
 use Rattle.plugd.specs.declared.ack.Ack.{Ack}
 use Rattle.plugd.specs.declared.command.Command.TheVariants as command
@@ -13,9 +13,10 @@ use Rattle.plugd.specs.declared.reply.Reply.{Reply}
 use Rattle.plugd.specs.declared.reply.Reply.TheVariants.{Done, LogSpent, Halted, BadLine}
 use Rattle.plugd.specs.declared.server.Server.{Server}
 use Rattle.plugd.specs.Command.{IsCommand}
+use Rattle.plugd.specs.Asked.{Asks}
 use Rattle.plugd.specs.Commit.{AtRest, Acknowledges, Commits, LogsOne}
 use Rattle.plugd.specs.Crash.{Safe}
-use Rattle.plugd.specs.Play.{State, Turn, Plays, bad, spent, logs, fails, halts, next_line, logged, halted_at, insert_size, numbers_of}
+use Rattle.plugd.specs.Play.{State, Turn, Plays, bad, spent, logs, fails, halts, next_line, logged, halted_at, logged_size, numbers_of}
 use Rattle.plugd.specs.Serve.{Base, Stopped, Serving, IsServing, Halts, Answers}
 use Rattle.plugd.proofs.SafeLemmas.{safe_halted, safe_logged}
 
@@ -112,10 +113,10 @@ rose_from : (a b c : ℕ) → a ≤ b → Rose b c → Rose a c
 rose_from a b c le rose = omega (arith, le, rose)
 
 -- it was logged and acknowledged
-pub logs_one : (base : Base) (lines : List (List ℕ)) (replies : List Reply) (old new : Server) (start end : Disk) (s : Serving base lines replies old start) (line : List ℕ) (key : ℤ) (text : List ℕ) (number : ℕ)
-    → IsCommand line (command.Insert key text) → old.halted ≡ false → Commits key text (counted old) new (Ok (Done number)) start end
+pub logs_one : (base : Base) (lines : List (List ℕ)) (replies : List Reply) (old new : Server) (start end : Disk) (s : Serving base lines replies old start) (line : List ℕ) (changes : List Change) (number : ℕ)
+    → Asks line changes → old.halted ≡ false → Commits changes (counted old) new (Ok (Done number)) start end
     → Serving base (lines ++ line ∷ []) (replies ++ Done number ∷ []) new end
-logs_one base lines replies old new start end s line key text number asks serves commits = record {
+logs_one base lines replies old new start end s line changes number asks serves commits = record {
   state = after;
   limit = commits.same.limit ∙ s.limit;
   small = s.small;
@@ -125,7 +126,7 @@ logs_one base lines replies old new start end s line key text number asks serves
     later = omega (arith, s.stopped.later, commits.counts.later);
     no_fewer = omega (arith, s.stopped.no_fewer, commits.counts.no_fewer);
     plays = plays_push base.limit base.first lines replies s.state line (Done number ∷ []) after s.stopped.plays
-        (logs key text asks met (omega (arith, d.0, s.limit, s.shows.len met)) (ap (λ (n : ℕ). Done n ∷ []) number_is) refl);
+        (logs changes asks met (omega (arith, d.0, s.limit, s.shows.len met)) (ap (λ (n : ℕ). Done n ∷ []) number_is) refl);
     numbers = ap (map (λ (a : Ack). a.number)) (d.1).acks ∙ map-append (λ (a : Ack). a.number) old.acks.items (ack ∷ []) ∙ ap (λ (l : List ℕ). l ++ number ∷ []) s.stopped.numbers
         ∙ sym (numbers-append replies (Done number ∷ []));
     cause = λ some. absurd (some refl);
@@ -136,7 +137,7 @@ logs_one base lines replies old new start end s line key text number asks serves
     serves = λ is. refl;
     halts = λ is. let h = (d.1).serving in cc;
     count = λ none. (d.1).counted ∙ number_is;
-    len = λ none. d.2 ∙ ap (λ (n : ℕ). n + insert_size text) (s.shows.len met);
+    len = λ none. d.2 ∙ ap (λ (n : ℕ). n + logged_size changes) (s.shows.len met);
   };
   rest = λ told none. (more told).2;
 }
@@ -144,14 +145,14 @@ logs_one base lines replies old new start end s line key text number asks serves
     met : s.state.met ≡ None
     met = s.shows.serves serves
 
-    d : (end_in old.log + insert_size text ≤ old.limit) × Acknowledges (counted old) new number end
-        × (end_in new.log ≡ end_in old.log + insert_size text)
+    d : (end_in old.log + logged_size changes ≤ old.limit) × Acknowledges (counted old) new number end
+        × (end_in new.log ≡ end_in old.log + logged_size changes)
         × ((list : List Transaction) → IsTrue start.told → AtRest (counted old) list start
-        → (one : LogsOne key text (counted old) list start end) × AtRest new (list ++ (record { xid = one.xid; change = change.Insert key text }) ∷ []) end)
+        → (one : LogsOne changes (counted old) list start end) × AtRest new (list ++ (record { xid = one.xid; changes = changes }) ∷ []) end)
     d = commits.done number refl
 
     after : State
-    after = logged (change.Insert key text) (insert_size text) s.state
+    after = logged changes s.state
 
     ack : Ack
     ack = record { number = number; call = end.calls }
@@ -164,19 +165,19 @@ logs_one base lines replies old new start end s line key text number asks serves
         let a = s.stopped.safe told in
         let r = s.rest told met in
         let one = d.3 (base.found ++ a.0) (subst IsTrue (sym s.stopped.told) told) (record { durable = r.durable; knows = r.knows }) in
-        let t : Transaction = record { xid = one.0.xid; change = change.Insert key text } in
+        let t : Transaction = record { xid = one.0.xid; changes = changes } in
         let same = append_assoc base.found a.0 (t ∷ []) in (
           a.0 ++ t ∷ [],
           subst (λ (l : List Ack). Safe base.start base.found (a.0 ++ t ∷ []) after l end) (sym (d.1).acks)
-              (safe_logged base.start base.found a.0 s.state old.acks.items start end t (s.state.line + 1) (s.state.len + insert_size text) new.log ack a.1 met one.0.next one.0.moments one.1.durable number_is refl),
+              (safe_logged base.start base.found a.0 s.state old.acks.items start end t (s.state.line + 1) (s.state.len + logged_size changes) new.log ack a.1 met one.0.next one.0.moments one.1.durable number_is refl),
           subst (λ (l : List Transaction). AtRest new l end) same one.1,
         )
 
 -- the device failed at it
-pub fails_at : (base : Base) (lines : List (List ℕ)) (replies : List Reply) (old new : Server) (start end : Disk) (s : Serving base lines replies old start) (line : List ℕ) (key : ℤ) (text : List ℕ)
-    → IsCommand line (command.Insert key text) → old.halted ≡ false → Commits key text (counted old) new (Ok Halted) start end
+pub fails_at : (base : Base) (lines : List (List ℕ)) (replies : List Reply) (old new : Server) (start end : Disk) (s : Serving base lines replies old start) (line : List ℕ) (changes : List Change)
+    → Asks line changes → old.halted ≡ false → Commits changes (counted old) new (Ok Halted) start end
     → Serving base (lines ++ line ∷ []) (replies ++ Halted ∷ []) new end
-fails_at base lines replies old new start end s line key text asks serves commits = record {
+fails_at base lines replies old new start end s line changes asks serves commits = record {
   state = after;
   limit = commits.same.limit ∙ s.limit;
   small = s.small;
@@ -186,7 +187,7 @@ fails_at base lines replies old new start end s line key text asks serves commit
     later = omega (arith, s.stopped.later, commits.counts.later);
     no_fewer = omega (arith, s.stopped.no_fewer, commits.counts.no_fewer);
     plays = plays_push base.limit base.first lines replies s.state line (Halted ∷ []) after s.stopped.plays
-        (fails key text asks met (omega (arith, h.0, s.limit, s.shows.len met)) refl refl);
+        (fails changes asks met (omega (arith, h.0, s.limit, s.shows.len met)) refl refl);
     numbers = ap (map (λ (a : Ack). a.number)) h.2 ∙ s.stopped.numbers ∙ sym (append-nil (numbers_of replies)) ∙ sym (numbers-append replies (Halted ∷ []));
     cause = λ some. rose_from base.start.faults start.faults end.faults s.stopped.no_fewer h.3;
     safe = safe;
@@ -204,48 +205,48 @@ fails_at base lines replies old new start end s line key text asks serves commit
     met : s.state.met ≡ None
     met = s.shows.serves serves
 
-    h : (end_in old.log + insert_size text ≤ old.limit) × (new.halted ≡ true) × (new.acks.items ≡ old.acks.items) × Rose start.faults end.faults
-        × ((list : List Transaction) → IsTrue start.told → AtRest (counted old) list start → LogsOne key text (counted old) list start end)
+    h : (end_in old.log + logged_size changes ≤ old.limit) × (new.halted ≡ true) × (new.acks.items ≡ old.acks.items) × Rose start.faults end.faults
+        × ((list : List Transaction) → IsTrue start.told → AtRest (counted old) list start → LogsOne changes (counted old) list start end)
     h = commits.halted refl
 
     after : State
-    after = halted_at (change.Insert key text) s.state
+    after = halted_at changes s.state
 
     safe : IsTrue base.start.told → (asked : List Transaction) × Safe base.start base.found asked after new.acks.items end
     safe told =
         let a = s.stopped.safe told in
         let r = s.rest told met in
         let one = h.4 (base.found ++ a.0) (subst IsTrue (sym s.stopped.told) told) (record { durable = r.durable; knows = r.knows }) in
-        let t : Transaction = record { xid = one.xid; change = change.Insert key text } in (
+        let t : Transaction = record { xid = one.xid; changes = changes } in (
           a.0 ++ t ∷ [],
           subst (λ (l : List Ack). Safe base.start base.found (a.0 ++ t ∷ []) after l end) (sym h.2)
               (safe_halted base.start base.found a.0 s.state old.acks.items start end t (s.state.line + 1) a.1 met one.next one.moments),
         )
 
 -- an insert, whatever came of it
-pub inserted : (base : Base) (lines : List (List ℕ)) (replies : List Reply) (old new : Server) (start end : Disk) (s : Serving base lines replies old start) (line : List ℕ) (key : ℤ) (text : List ℕ) (reply : Reply)
-    → IsCommand line (command.Insert key text) → old.halted ≡ false → Commits key text (counted old) new (Ok reply) start end
+pub inserted : (base : Base) (lines : List (List ℕ)) (replies : List Reply) (old new : Server) (start end : Disk) (s : Serving base lines replies old start) (line : List ℕ) (changes : List Change) (reply : Reply)
+    → Asks line changes → old.halted ≡ false → Commits changes (counted old) new (Ok reply) start end
     → Serving base (lines ++ line ∷ []) (replies ++ reply ∷ []) new end
-inserted base lines replies old new start end s line key text (Done number) asks serves commits = logs_one base lines replies old new start end s line key text number asks serves commits
-inserted base lines replies old new start end s line key text Halted asks serves commits = fails_at base lines replies old new start end s line key text asks serves commits
-inserted base lines replies old new start end s line key text (BadLine number) asks serves commits = absurd (commits.not_bad number refl)
-inserted base lines replies old new start end s line key text LogSpent asks serves commits =
+inserted base lines replies old new start end s line changes (Done number) asks serves commits = logs_one base lines replies old new start end s line changes number asks serves commits
+inserted base lines replies old new start end s line changes Halted asks serves commits = fails_at base lines replies old new start end s line changes asks serves commits
+inserted base lines replies old new start end s line changes (BadLine number) asks serves commits = absurd (commits.not_bad number refl)
+inserted base lines replies old new start end s line changes LogSpent asks serves commits =
     let spent_is = commits.spent refl in
     let met = s.shows.serves serves in
     subst (λ (d : Disk). Serving base (lines ++ line ∷ []) (replies ++ LogSpent ∷ []) new d) (sym spent_is.2)
     (subst (λ (n : Server). Serving base (lines ++ line ∷ []) (replies ++ LogSpent ∷ []) n start) (sym spent_is.1)
-    (idle base lines replies old start s line (LogSpent ∷ []) (spent key text asks met (omega (arith, spent_is.0, s.limit, s.shows.len met)) refl refl) refl))
+    (idle base lines replies old start s line (LogSpent ∷ []) (spent changes asks met (omega (arith, spent_is.0, s.limit, s.shows.len met)) refl refl) refl))
 
 some_of : {A : Type 0} (o : Option A) → o ≢ None → (x : A) × (o ≡ Some x)
 some_of None some = absurd (some refl)
 some_of (Some x) some = (x, refl)
 
 -- an insert after the device had failed
-pub halted_line : (base : Base) (lines : List (List ℕ)) (replies : List Reply) (old : Server) (disk : Disk) (s : Serving base lines replies old disk) (line : List ℕ) (key : ℤ) (text : List ℕ)
-    → IsCommand line (command.Insert key text) → old.halted ≡ true → Serving base (lines ++ line ∷ []) (replies ++ Halted ∷ []) (counted old) disk
-halted_line base lines replies old disk s line key text asks halted =
+pub halted_line : (base : Base) (lines : List (List ℕ)) (replies : List Reply) (old : Server) (disk : Disk) (s : Serving base lines replies old disk) (line : List ℕ) (changes : List Change)
+    → Asks line changes → old.halted ≡ true → Serving base (lines ++ line ∷ []) (replies ++ Halted ∷ []) (counted old) disk
+halted_line base lines replies old disk s line changes asks halted =
     let met = some_of s.state.met (s.shows.halts halted) in
-    idle base lines replies old disk s line (Halted ∷ []) (halts key text met.0 asks met.1 refl refl) refl
+    idle base lines replies old disk s line (Halted ∷ []) (halts changes met.0 asks met.1 refl refl) refl
 
 -- a line that is not known
 pub bad_line : (base : Base) (lines : List (List ℕ)) (replies : List Reply) (old : Server) (disk : Disk) (s : Serving base lines replies old disk) (line : List ℕ)

@@ -1,17 +1,17 @@
 -- What a commit does to the server and to the log file. (This project.)
-use Rattle.std.specs.Prelude.{◌≡◌, ◌<◌, ◌≤◌, ◌+◌, ℕ, ℤ, List, [], ◌∷◌, ◌++◌, length, Result, Ok, OnErr, IsTrue, true}
+use Rattle.std.specs.Prelude.{◌≡◌, ◌<◌, ◌≤◌, ◌+◌, ℕ, List, [], ◌∷◌, ◌++◌, length, Result, Ok, OnErr, IsTrue, true}
 use Rattle.std.specs.declared.alloc.AllocError.{AllocError}
 use Rattle.fault_counts.specs.Rose.{Rose}
 use Rattle.disk_model.specs.Disk.{Disk, now, Keeps, Only}
-use Rattle.binlog_file.specs.declared.transaction.Change.TheVariants as change
-use Rattle.binlog_file.specs.declared.transaction.Transaction.{Transaction}
+use Rattle.row_format.specs.declared.change.Change.{Change}
+use Rattle.row_format.specs.declared.change.Transaction.{Transaction}
 use Rattle.binlog_file.specs.Logged.{Holds}
 use Rattle.binlog_file.specs.Binlog.{flushed_of, end_in}
 use Rattle.plugd.specs.declared.reply.Reply.{Reply}
 use Rattle.plugd.specs.declared.reply.Reply.TheVariants.{Done, LogSpent, Halted, BadLine}
 use Rattle.plugd.specs.declared.server.Server.{Server}
 use Rattle.plugd.specs.LogOne.{IsDurable, EachOne}
-use Rattle.plugd.specs.Play.{insert_size}
+use Rattle.plugd.specs.Play.{logged_size}
 use Rattle.plugd.specs.Xids.{xids_of, IsNextXid}
 use Rattle.plugd.specs.XidSet.{Knows}
 
@@ -52,22 +52,22 @@ pub record Writes (old new : Server) (reply : Reply) (start end : Disk) : Type 0
   pub not_bad : (line : ℕ) → reply ≡ BadLine line → ⊥
 
 -- what a commit has to do with the log that it found
-pub record LogsOne (key : ℤ) (text : List ℕ) (old : Server) (list : List Transaction) (start end : Disk) : Type 0 where
+pub record LogsOne (changes : List Change) (old : Server) (list : List Transaction) (start end : Disk) : Type 0 where
   pub xid : ℕ
   pub next : IsNextXid (xids_of list) xid
-  pub moments : Keeps start end (Only 0 (now start) (Holds list (list ++ (record { xid = xid; change = change.Insert key text }) ∷ [])))
+  pub moments : Keeps start end (Only 0 (now start) (Holds list (list ++ (record { xid = xid; changes = changes }) ∷ [])))
 
--- An insert: it was refused since the log is spent, and nothing was done; or it was logged and acknowledged; or the device failed. After
+-- Some changes: they were refused since the log is spent, and nothing was done; or they were logged and acknowledged; or the device failed. After
 -- want of memory nothing was appended.
-pub record Commits (key : ℤ) (text : List ℕ) (old new : Server) (result : Result Reply AllocError) (start end : Disk) : Type 0 where
+pub record Commits (changes : List Change) (old new : Server) (result : Result Reply AllocError) (start end : Disk) : Type 0 where
   pub same : IsSameServer old new
   pub counts : CallsGoOn start end
-  pub spent : result ≡ Ok LogSpent → (old.limit < end_in old.log + insert_size text) × (new ≡ old) × (end ≡ start)
-  pub done : (number : ℕ) → result ≡ Ok (Done number) → (end_in old.log + insert_size text ≤ old.limit) × Acknowledges old new number end
-      × (end_in new.log ≡ end_in old.log + insert_size text)
+  pub spent : result ≡ Ok LogSpent → (old.limit < end_in old.log + logged_size changes) × (new ≡ old) × (end ≡ start)
+  pub done : (number : ℕ) → result ≡ Ok (Done number) → (end_in old.log + logged_size changes ≤ old.limit) × Acknowledges old new number end
+      × (end_in new.log ≡ end_in old.log + logged_size changes)
       × ((list : List Transaction) → IsTrue start.told → AtRest old list start
-      → (logs : LogsOne key text old list start end) × AtRest new (list ++ (record { xid = logs.xid; change = change.Insert key text }) ∷ []) end)
-  pub halted : result ≡ Ok Halted → (end_in old.log + insert_size text ≤ old.limit) × (new.halted ≡ true) × (new.acks.items ≡ old.acks.items) × Rose start.faults end.faults
-      × ((list : List Transaction) → IsTrue start.told → AtRest old list start → LogsOne key text old list start end)
+      → (logs : LogsOne changes old list start end) × AtRest new (list ++ (record { xid = logs.xid; changes = changes }) ∷ []) end)
+  pub halted : result ≡ Ok Halted → (end_in old.log + logged_size changes ≤ old.limit) × (new.halted ≡ true) × (new.acks.items ≡ old.acks.items) × Rose start.faults end.faults
+      × ((list : List Transaction) → IsTrue start.told → AtRest old list start → LogsOne changes old list start end)
   pub not_bad : (line : ℕ) → result ≡ Ok (BadLine line) → ⊥
   pub memory : OnErr result ((new.acks.items ≡ old.acks.items) × (new.halted ≡ old.halted) × (end ≡ start))

@@ -3,7 +3,7 @@ use Rattle.std.specs.Prelude.{◌≡◌, ◌⊎◌, ◌+◌, ◌≤◌, ℕ, Lis
 use Rattle.disk_model.specs.File.{File, IsImage}
 use Rattle.disk_model.specs.Disk.{Disk, now, contents, Keeps, Only}
 use Rattle.framed_file.specs.Framed.{IsFaithful}
-use Rattle.binlog_file.specs.declared.transaction.Transaction.{Transaction}
+use Rattle.row_format.specs.declared.change.Transaction.{Transaction}
 use Rattle.binlog_file.specs.Logged.{IsLogHeader, log_of, IsLogged, Holds}
 use Rattle.plugd.specs.declared.ack.Ack.{Ack}
 use Rattle.plugd.specs.Xids.{xids_of, AreGiven, AreDistinct}
@@ -45,10 +45,10 @@ abbrev pub AreKept : List Transaction → Disk → List Ack → Type 0
 AreKept all disk [] = Unit {0}
 AreKept all disk (ack ∷ acks) = IsKept all disk ack × AreKept all disk acks
 
--- Of a run that found some transactions and was asked for others, in a state: the others have the changes that were logged, and that
+-- Of a run that found some transactions and was asked for others, in a state: the others have the changes that were logged, and those
 -- at which the device failed; each has an xid by the rule; what a crash leaves at each moment; and of each acknowledgement.
 pub record Safe (start : Disk) (found asked : List Transaction) (state : State) (acks : List Ack) (disk : Disk) : Type 0 where
-  pub changes_are : map (λ t. t.change) asked ≡ state.changes ++ option_to_list state.met
+  pub changes_are : map (λ t. t.changes) asked ≡ state.changes ++ option_to_list state.met
   pub count : state.count ≡ length found + length state.changes
   pub given : AreGiven (xids_of found) (xids_of asked)
   pub moments : Keeps start disk (Only 0 (now start) (StandsIn (now start 0) found (found ++ asked)))

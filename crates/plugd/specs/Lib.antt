@@ -4,6 +4,7 @@ pub mod Line
 pub mod Reply
 pub mod Xids
 pub mod Lines
+pub mod Asked
 pub mod Play
 pub mod Crash
 pub mod XidSet

@@ -2,7 +2,7 @@
 use Rattle.std.specs.Prelude.{◌≡◌, ℕ, List, [], ◌∷◌, IsTrue}
 use Rattle.disk_model.specs.Disk.{Disk, now}
 use Rattle.binlog_file.specs.declared.binlog.Binlog.{Binlog}
-use Rattle.binlog_file.specs.declared.transaction.Transaction.{Transaction}
+use Rattle.row_format.specs.declared.change.Transaction.{Transaction}
 use Rattle.binlog_file.specs.Binlog.{flushed_of, durable_of, IsLog, Carries}
 
 -- the log stands in file 0 with these transactions, all of them durable

@@ -1,12 +1,13 @@
 -- What playing lines does: each line's reply, and the state that it leaves. (This project.)
-use Rattle.std.specs.Prelude.{◌≡◌, ◌<◌, ◌≤◌, ◌+◌, ℕ, ℤ, List, [], ◌∷◌, ◌++◌, length, Option, Some, None}
-use Rattle.binlog_file.specs.declared.transaction.Change.{Change}
-use Rattle.binlog_file.specs.declared.transaction.Change.TheVariants as change
-use Rattle.binlog_file.specs.declared.write.TheConstants.{LEN_WITHOUT_TEXT}
+use Rattle.std.specs.Prelude.{◌≡◌, ◌<◌, ◌≤◌, ◌+◌, ℕ, List, [], ◌∷◌, ◌++◌, Option, Some, None, sum_by}
+use Rattle.frame_codec.specs.Frame.{size_of}
+use Rattle.row_format.specs.declared.change.Change.{Change}
+use Rattle.binlog_events.specs.Transaction.{events_of}
 use Rattle.plugd.specs.declared.command.Command.TheVariants as command
 use Rattle.plugd.specs.declared.reply.Reply.{Reply}
 use Rattle.plugd.specs.declared.reply.Reply.TheVariants.{Done, LogSpent, Halted, BadLine}
 use Rattle.plugd.specs.Command.{IsCommand}
+use Rattle.plugd.specs.Asked.{Asks}
 
 -- where a run stands between two lines
 pub record State : Type 0 where
@@ -15,26 +16,26 @@ pub record State : Type 0 where
   -- how many transactions the log has, and how many bytes
   pub count : ℕ
   pub len : ℕ
-  -- the changes that were logged since the opening
-  pub changes : List Change
-  -- the change at which the device failed: from then on the run is halted
-  pub met : Option Change
+  -- the changes of each transaction that was logged since the opening
+  pub changes : List (List Change)
+  -- those of the transaction at which the device failed: from then on the run is halted
+  pub met : Option (List Change)
 
 -- one line more, and nothing else
 abbrev pub next_line : State → State
 next_line state = record { line = state.line + 1; count = state.count; len = state.len; changes = state.changes; met = state.met }
 
--- one change more
-abbrev pub logged : Change → ℕ → State → State
-logged change size state = record { line = state.line + 1; count = state.count + 1; len = state.len + size; changes = state.changes ++ change ∷ []; met = None }
+-- how many bytes the log needs for a transaction of these changes
+abbrev pub logged_size : List Change → ℕ
+logged_size changes = sum_by size_of (events_of (record { xid = 0; changes = changes }))
 
--- the device failed at a change
-abbrev pub halted_at : Change → State → State
-halted_at change state = record { line = state.line + 1; count = state.count; len = state.len; changes = state.changes; met = Some change }
+-- one transaction more
+abbrev pub logged : List Change → State → State
+logged changes state = record { line = state.line + 1; count = state.count + 1; len = state.len + logged_size changes; changes = state.changes ++ changes ∷ []; met = None }
 
--- how many bytes the log needs for an insert of this text
-abbrev pub insert_size : List ℕ → ℕ
-insert_size text = LEN_WITHOUT_TEXT + length text
+-- the device failed at a transaction
+abbrev pub halted_at : List Change → State → State
+halted_at changes state = record { line = state.line + 1; count = state.count; len = state.len; changes = state.changes; met = Some changes }
 
 -- one line: what it asks for tells its reply and the next state, but that the device may fail
 pub data Turn (limit : ℕ) (line : List ℕ) (before : State) (replies : List Reply) (after : State) : Type 0 where
@@ -43,16 +44,16 @@ pub data Turn (limit : ℕ) (line : List ℕ) (before : State) (replies : List R
   -- any line that is not known
   bad : IsCommand line command.Bad → replies ≡ BadLine (before.line + 1) ∷ [] → after ≡ next_line before → Turn limit line before replies after
   -- the log would pass its limit: nothing is appended
-  spent : (key : ℤ) (text : List ℕ) → IsCommand line (command.Insert key text) → before.met ≡ None → limit < before.len + insert_size text
+  spent : (changes : List Change) → Asks line changes → before.met ≡ None → limit < before.len + logged_size changes
       → replies ≡ LogSpent ∷ [] → after ≡ next_line before → Turn limit line before replies after
   -- it was logged, and is durable
-  logs : (key : ℤ) (text : List ℕ) → IsCommand line (command.Insert key text) → before.met ≡ None → before.len + insert_size text ≤ limit
-      → replies ≡ Done (before.count + 1) ∷ [] → after ≡ logged (change.Insert key text) (insert_size text) before → Turn limit line before replies after
+  logs : (changes : List Change) → Asks line changes → before.met ≡ None → before.len + logged_size changes ≤ limit
+      → replies ≡ Done (before.count + 1) ∷ [] → after ≡ logged changes before → Turn limit line before replies after
   -- the device failed
-  fails : (key : ℤ) (text : List ℕ) → IsCommand line (command.Insert key text) → before.met ≡ None → before.len + insert_size text ≤ limit
-      → replies ≡ Halted ∷ [] → after ≡ halted_at (change.Insert key text) before → Turn limit line before replies after
+  fails : (changes : List Change) → Asks line changes → before.met ≡ None → before.len + logged_size changes ≤ limit
+      → replies ≡ Halted ∷ [] → after ≡ halted_at changes before → Turn limit line before replies after
   -- the device failed at an earlier line
-  halts : (key : ℤ) (text : List ℕ) (met : Change) → IsCommand line (command.Insert key text) → before.met ≡ Some met
+  halts : (changes met : List Change) → Asks line changes → before.met ≡ Some met
       → replies ≡ Halted ∷ [] → after ≡ next_line before → Turn limit line before replies after
 
 -- these lines, one after the other

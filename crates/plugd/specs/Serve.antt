@@ -3,7 +3,7 @@ use Rattle.std.specs.Prelude.{◌≡◌, ◌≢◌, ◌≤◌, ℕ, List, [], �
 use Rattle.std.specs.declared.alloc.AllocError.{AllocError}
 use Rattle.fault_counts.specs.Rose.{Rose}
 use Rattle.disk_model.specs.Disk.{Disk}
-use Rattle.binlog_file.specs.declared.transaction.Transaction.{Transaction}
+use Rattle.row_format.specs.declared.change.Transaction.{Transaction}
 use Rattle.binlog_file.specs.Binlog.{flushed_of, end_in}
 use Rattle.plugd.specs.declared.ack.Ack.{Ack}
 use Rattle.plugd.specs.declared.reply.Reply.{Reply}

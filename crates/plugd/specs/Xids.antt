@@ -1,6 +1,6 @@
 -- Which xid a transaction gets. (This project.)
 use Rattle.std.specs.Prelude.{◌≡◌, ◌⊎◌, ◌<◌, ◌≤◌, ◌+◌, ◌-◌, ◌^◌, ℕ, max, List, [], ◌∷◌, ◌++◌, map, Contains}
-use Rattle.binlog_file.specs.declared.transaction.Transaction.{Transaction}
+use Rattle.row_format.specs.declared.change.Transaction.{Transaction}
 
 -- the xids of transactions, in order
 abbrev pub xids_of : List Transaction → List ℕ

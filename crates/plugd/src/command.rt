@@ -7,7 +7,7 @@ ghost use Rattle.plugd.specs.declared.command.Command.{Command};
 ghost use Rattle.plugd.specs.Command.{without_return, insert_line, insert_front, insert_back, before_text, IsShortWord, IsBigInt, IsCommand, IsInsert, IsNoInsert};
 ghost use Rattle.plugd.specs.Line.{HasNoComma, StartsCanonical};
 
-use binlog_file::Text;
+use row_format::Text;
 use std::alloc::{AllocError, Global};
 
 /// How many bytes of a line decide what it asks for: a longer line asks for nothing that is known.

@@ -1,7 +1,7 @@
 //! One transaction into the log: one write and one sync.
 ghost use Rattle.std.specs.Prelude.{◌≡◌, ◌+◌, ◌++◌, ◌∷◌, [], List, length, OnOk, IsErr, IsTrue};
 ghost use Rattle.disk_model.specs.Disk.{Disk, now, Keeps, Only, HasCause, MakesCalls};
-ghost use Rattle.binlog_file.specs.declared.transaction.Transaction.{Transaction};
+ghost use Rattle.row_format.specs.declared.change.Transaction.{Transaction};
 ghost use Rattle.binlog_file.specs.Logged.{Holds};
 ghost use Rattle.binlog_file.specs.Binlog.{flushed_of, durable_of, end_in, IsLog, IsOpen, Carries};
 ghost use Rattle.plugd.specs.LogOne.{IsDurable, EachOne};

@@ -5,6 +5,7 @@
 #![tactic(auto)]
 
 mod ack;
+mod asked;
 mod command;
 mod dir_storage;
 mod log_one;

@@ -4,19 +4,22 @@
 //! serving --a fault of the device at a commit--> halted
 //! ```
 //! Invariant: while it serves, every transaction in the log is durable, and each was acknowledged after its sync (`AtRest`).
-ghost use Rattle.std.specs.Prelude.{◌≡◌, ◌≤◌, ◌<◌, ◌+◌, ◌++◌, ◌∷◌, [], ℕ, ℤ, List, length, FitsSigned, vec_len, vec_capacity, IfOk, OnOk, OnErr, IsTrue, false, true};
-ghost use Rattle.std.specs.Int.{w64};
+ghost use Rattle.std.specs.Prelude.{◌≡◌, ◌≤◌, ◌<◌, ◌+◌, ◌^◌, ◌++◌, ◌∷◌, [], ℕ, List, length, vec_len, vec_capacity, IfOk, OnOk, OnErr, IsTrue, false, true};
 ghost use Rattle.disk_model.specs.Disk.{Disk};
-ghost use Rattle.binlog_file.specs.declared.transaction.Transaction.{Transaction};
+ghost use Rattle.row_format.specs.declared.change.Transaction.{Transaction};
+ghost use Rattle.row_format.specs.Changes.{AreFitChanges};
 ghost use Rattle.binlog_file.specs.Binlog.{flushed_of, end_in, IsOpen, Carries};
 
 use crate::ack::Ack;
+use crate::asked::insert_changes;
 use crate::command::{Command, command_of};
 use crate::log_one::log_one;
 use crate::reply::Reply;
 use crate::xids::XidSet;
-use binlog_file::{Binlog, Change, LEN_WITHOUT_TEXT, Text, Transaction, put_transaction};
+use binlog_events::{put_transaction, transaction_len};
+use binlog_file::Binlog;
 use disk_model::Storage;
+use row_format::{Changes, Transaction};
 use std::alloc::{AllocError, Global};
 
 /// The log, what was acknowledged, and how many lines were played.
@@ -56,31 +59,32 @@ impl Server {
                 if self.halted {
                     return Ok(Some(Reply::Halted));
                 }
-                let reply = self.commit(volume, key, text)?;
+                let changes = insert_changes(self.alloc, key, text)?;
+                let reply = self.commit(volume, changes)?;
                 Ok(Some(reply))
             }
         }
     }
 
-    // Logs an insert and acknowledges it. Nothing is appended where the log would pass its limit, nor after want of memory.
+    // Logs changes and acknowledges them. Nothing is appended where the log would pass its limit, nor after want of memory.
     fn commit(
         &mut self,
         volume: &mut dyn Storage,
-        key: i64,
-        text: Text,
+        changes: Changes,
     ) -> Result<Reply, AllocError>
-        requires text { length text ≤ 10 }
+        requires some { 0 < length changes }
+        requires few { length changes < 2 ^ 31 }
+        requires fit { AreFitChanges changes }
         requires limit { self.old.limit ≤ 2147483647 }
         requires log { IsOpen self.old.log (disk volume.old) }
-        ensures commits { Commits key text self.old self.new result (disk volume.old) (disk volume.new) }
+        ensures commits { Commits changes self.old self.new result (disk volume.old) (disk volume.new) }
     {
-        let size = LEN_WITHOUT_TEXT + text.as_bytes().len() as u32;
-        if size > self.log.room(self.limit) {
+        let size = transaction_len(&changes);
+        if size > u64::from(self.log.room(self.limit)) {
             return Ok(Reply::LogSpent);
         }
         let xid = self.xids.give()?;
-        let change = Change::Insert { key, text };
-        let txn = Transaction { xid, change };
+        let txn = Transaction { xid, changes };
         self.spelling.clear();
         let at = self.log.len();
         let prev = self.log.last_crc();

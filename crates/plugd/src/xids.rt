@@ -5,7 +5,8 @@ ghost use Rattle.std.specs.Prelude.{◌≡◌, ◌≤◌, ◌<◌, ◌++◌, ◌
 ghost use Rattle.plugd.specs.Xids.{xids_of, IsNextXid};
 ghost use Rattle.plugd.specs.XidSet.{IsIn, IsInOne, HasXid, HasUpTo, Knows, IsLeastFree};
 
-use binlog_file::{Transaction, Visit};
+use binlog_file::Visit;
+use row_format::Transaction;
 use std::alloc::{AllocError, Global};
 
 /// The numbers from `first` to `last`, or none where `last` is below `first`.
