@@ -1,3 +1,4 @@
+pub mod XidLemmas
 pub mod WriteLemmas
 pub mod WalkLemmas
 pub mod ListLemmas

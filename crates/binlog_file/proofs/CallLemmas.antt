@@ -1,5 +1,5 @@
 -- What a write and a sync of the log do, at each moment.
-use Rattle.std.proofs.Common.{◌≡◌, ℕ, ◌+◌, ◌-◌, ◌<◌, ◌≤◌, List, [], ◌∷◌, ◌++◌, length, take, drop, Result, Ok, Err, IsTrue, Bool, false, cond, nat_lt, refl, sym, ◌∙◌, ap, subst, arith, append_assoc, length-append, take-append-drop, ◌^◌}
+use Rattle.std.proofs.Common.{◌≡◌, ℕ, ◌+◌, ◌-◌, ◌<◌, ◌≤◌, List, [], ◌∷◌, ◌++◌, length, take, drop, Result, Ok, Err, IsTrue, Bool, false, cond, nat_lt, None, refl, sym, ◌∙◌, ap, subst, arith, append_assoc, length-append, take-append-drop, ◌^◌}
 use Rattle.std.proofs.lemmas.List.{take_all, take-append-le, drop_at}
 use Rattle.std.proofs.lemmas.Bool.Decides.{nat_tests}
 use Rattle.std.proofs.lemmas.Nat.{from_le_bytes-to_le_bytes_4}
@@ -20,11 +20,12 @@ use Rattle.framed_file.specs.Framed.{IsPrefix, header_len}
 use Rattle.framed_file.proofs.PrefixLemmas.{prefix_refl, prefix_trans}
 use Rattle.binlog_file.specs.declared.binlog.Binlog.{Binlog}
 use Rattle.row_format.specs.declared.change.Transaction.{Transaction}
-use Rattle.binlog_events.specs.Transaction.{begin, table_map, row_event, xid_event, events_of}
+use Rattle.binlog_events.specs.Changes.{change_events}
+use Rattle.binlog_events.specs.Transaction.{begin, xid_event, events_of}
 use Rattle.binlog_file.specs.Logged.{header_checksum, log_header, all_events, log_end, log_checksum, log_of, Holds}
 use Rattle.binlog_file.specs.Binlog.{IsLog, IsOpen, Carries}
 use Rattle.binlog_file.specs.Tail.{tail_checksum}
-use Rattle.binlog_file.proofs.LoggedLemmas.{all_events-append, AreFit-append, length-log_header, log_held}
+use Rattle.binlog_file.proofs.LoggedLemmas.{some_bytes, all_events-append, AreFit-append, length-log_header, log_held}
 
 pub length-log_of : (list : List Transaction) → length (log_of list) ≡ log_end list
 length-log_of list = omega (arith, length-append log_header (chain_of header_checksum header_len (all_events list)), length-log_header, length-chain_of header_checksum header_len (all_events list))
@@ -54,7 +55,7 @@ few at [] = omega arith
 few at (t ∷ more) =
     let rest = few (end_of at (events_of t)) more in
     let first = end_of-append at (events_of t) (all_events more) in
-    omega (arith, rest, first)
+    omega (arith, rest, first, some_bytes at t)
 
 pub carried_size : (log : Binlog) (bytes : List ℕ) (more : List Transaction) → Carries log bytes more → log.len + length bytes ≡ end_of log.len (all_events more)
 carried_size log bytes more carries = omega (arith, ap length carries.spelt, length-chain_of log.crc log.len (all_events more))
@@ -88,7 +89,7 @@ pub carried_checksum : (log : Binlog) (bytes : List ℕ) (more : List Transactio
 carried_checksum log bytes [] small are carries = no_tail log.crc bytes (carries.spelt ∙ chain_of-nil log.crc log.len)
 carried_checksum log bytes (t ∷ more) small are carries =
     let events = all_events (t ∷ more) in
-    let tail = chain_tail log.crc log.len begin (table_map ∷ row_event t.change ∷ xid_event t.xid ∷ all_events more) in
+    let tail = chain_tail log.crc log.len begin ((change_events None t.changes ++ xid_event t.xid ∷ []) ++ all_events more) in
     tail_of log.crc tail.0 bytes (last_checksum log.crc log.len events) (last_small log.crc log.len events small (subst IsBytes carries.spelt are)) (carries.spelt ∙ tail.1)
 
 -- a log at rest

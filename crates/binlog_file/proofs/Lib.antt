@@ -1,3 +1,5 @@
+pub mod MeetLemmas
+pub mod CutOffLemmas
 pub mod UniqueLemmas
 pub mod PlainLemmas
 pub mod LoggedLemmas

@@ -1,5 +1,5 @@
 -- The logged transactions of bytes, and what a faithful image of a log holds.
-use Rattle.std.proofs.Common.{◌≡◌, inl, ⊎_elim, ℕ, ◌≤◌, List, [], ◌∷◌, ◌++◌, length, refl, sym, ◌∙◌, ap, subst, arith, append_assoc, length-append}
+use Rattle.std.proofs.Common.{◌≡◌, inl, ⊎_elim, ℕ, ◌+◌, ◌<◌, ◌≤◌, None, List, [], ◌∷◌, ◌++◌, length, refl, sym, ◌∙◌, ap, subst, arith, append_assoc, length-append}
 use Rattle.std.proofs.lemmas.List.{append-nil, append_cancel_left}
 use Rattle.disk_model.specs.File.{File}
 use Rattle.disk_model.specs.Grew.{OnlyGrew}
@@ -13,7 +13,8 @@ use Rattle.framed_file.specs.Framed.{IsPrefix, header_len, framed, HoldsFrames}
 use Rattle.framed_file.proofs.PrefixLemmas.{prefix_nil, prefixes_meet}
 use Rattle.framed_file.proofs.HeldLemmas.{frames_held}
 use Rattle.row_format.specs.declared.change.Transaction.{Transaction}
-use Rattle.binlog_events.specs.Transaction.{events_of, IsFit, IsTransactionAt}
+use Rattle.binlog_events.specs.Changes.{change_events}
+use Rattle.binlog_events.specs.Transaction.{xid_event, events_of, IsFit, IsTransactionAt}
 use Rattle.binlog_file.specs.Logged.{header_checksum, log_header, IsLogHeader, header_fields, all_events, log_end, log_checksum, log_of, AreFit, IsBetween, Holds}
 use Rattle.binlog_events.proofs.TransactionLemmas.{one_transaction}
 
@@ -35,6 +36,10 @@ AreFit-front (x ∷ xs) ys fit = (fit.0, AreFit-front xs ys fit.1)
 pub AreFit-back : (xs ys : List Transaction) → AreFit (xs ++ ys) → AreFit ys
 AreFit-back [] ys fit = fit
 AreFit-back (x ∷ xs) ys fit = AreFit-back xs ys fit.1
+
+-- a transaction has some bytes
+pub some_bytes : (at : ℕ) (t : Transaction) → at < end_of at (events_of t)
+some_bytes at t = omega (arith, end_of-le (at + 24) (change_events None t.changes ++ xid_event t.xid ∷ []))
 
 -- events at whose front no whole transaction stands
 abbrev IsPartial : List Event → Type 0

@@ -25,8 +25,7 @@ use Rattle.binlog_file.specs.Logged.{header_checksum, log_header, all_events, lo
 use Rattle.binlog_file.specs.Binlog.{IsLog}
 use Rattle.binlog_events.specs.Found.{NoTransactionAt}
 use Rattle.binlog_file.specs.Opening.{Reached, Walked, IsSafe, OpensFor}
-use Rattle.binlog_events.proofs.TransactionLemmas.{length-events_of}
-use Rattle.binlog_file.proofs.LoggedLemmas.{length-log_header}
+use Rattle.binlog_file.proofs.LoggedLemmas.{some_bytes, length-log_header}
 use Rattle.binlog_file.proofs.CallLemmas.{length-log_of}
 
 -- What a crash leaves of a file that is cut, or gets its header.
@@ -90,8 +89,7 @@ log_of-nil = ap (λ (l : List ℕ). log_header ++ l) (chain_of-nil header_checks
 -- a header alone has no transaction
 pub nothing_stands : (prev at : ℕ) (bytes : List ℕ) → length bytes ≡ 0 → NoTransactionAt prev at bytes
 nothing_stands prev at bytes none t here =
-    let size = length-events_of at t here.fit in
-    absurd (omega (arith, none, ap length here.stands, length-append (chain_of prev at (events_of t)) here.rest, length-chain_of prev at (events_of t), size.0))
+    absurd (omega (arith, none, ap length here.stands, length-append (chain_of prev at (events_of t)) here.rest, length-chain_of prev at (events_of t), some_bytes at t))
 
 -- at most 32 bytes are an empty log, with a header or without
 short_logged : (bytes : List ℕ) → length bytes ≤ header_len → IsLogged bytes []

@@ -1,33 +1,14 @@
 -- Bytes have at most one logged list.
-use Rattle.std.proofs.Common.{◌≡◌, ⊎_elim, ℕ, ◌+◌, List, [], ◌∷◌, ◌++◌, length, refl, sym, ◌∙◌, ap, subst, arith, append_assoc}
-use Rattle.std.proofs.lemmas.List.{append-nil, append_cancel_left}
-use Rattle.frame_codec.specs.Frame.{Event, size_of, checksum_of, frame_of}
+use Rattle.std.proofs.Common.{◌≡◌, ⊎_elim, ℕ, List, [], ◌∷◌, ◌++◌, refl, sym, ◌∙◌, ap, subst, arith, append_assoc}
+use Rattle.std.proofs.lemmas.List.{append_cancel_left}
 use Rattle.frame_codec.specs.Chain.{chain_of, end_of, last_checksum, EndsWithin}
-use Rattle.frame_codec.proofs.FrameLemmas.{one_event}
-use Rattle.frame_codec.proofs.ChainLemmas.{chain_of-nil, chain_of-cons, chain_of-append, end_of-append, last_checksum-append, end_of-le}
+use Rattle.frame_codec.proofs.ChainLemmas.{chain_of-nil, chain_of-append, end_of-append, last_checksum-append, end_of-le}
 use Rattle.framed_file.specs.Framed.{header_len}
 use Rattle.row_format.specs.declared.change.Transaction.{Transaction}
 use Rattle.binlog_events.specs.Transaction.{events_of}
 use Rattle.binlog_events.specs.Found.{NoTransactionAt}
 use Rattle.binlog_file.specs.Logged.{header_checksum, log_header, all_events, AreFit, Headed, IsLogged}
-use Rattle.binlog_events.proofs.TransactionLemmas.{one_transaction}
-
--- two chains of as many frames at one place are of the same events
-same_chain : (prev at : ℕ) (es fs : List Event) (x y : List ℕ) → length es ≡ length fs → EndsWithin at es → EndsWithin at fs
-    → chain_of prev at es ++ x ≡ chain_of prev at fs ++ y → (es ≡ fs) × (x ≡ y)
-same_chain prev at [] [] x y long ends_e ends_f is = (refl, sym (ap (λ (l : List ℕ). l ++ x) (chain_of-nil prev at)) ∙ is ∙ ap (λ (l : List ℕ). l ++ y) (chain_of-nil prev at))
-same_chain prev at [] (f ∷ fs) x y long ends_e ends_f is = absurd (omega (arith, long))
-same_chain prev at (e ∷ es) [] x y long ends_e ends_f is = absurd (omega (arith, long))
-same_chain prev at (e ∷ es) (f ∷ fs) x y long ends_e ends_f is =
-    let spelt = sym (parted e es x) ∙ is ∙ parted f fs y in
-    let first = one_event prev at e f _ _ (omega (arith, end_of-le (at + size_of e) es, ends_e)) (omega (arith, end_of-le (at + size_of f) fs, ends_f)) spelt in
-    let behind = first.1 ∙ ap (λ (g : Event). chain_of (checksum_of prev at g) (at + size_of g) fs ++ y) (sym first.0) in
-    let ends : EndsWithin (at + size_of e) fs = subst (λ (g : Event). EndsWithin (at + size_of g) fs) (sym first.0) ends_f in
-    let rest = same_chain (checksum_of prev at e) (at + size_of e) es fs x y (omega (arith, long)) ends_e ends behind in
-    (ap (λ (g : Event). g ∷ es) first.0 ∙ ap (λ (l : List Event). f ∷ l) rest.0, rest.1)
-  where
-    parted : (e : Event) (es : List Event) (x : List ℕ) → chain_of prev at (e ∷ es) ++ x ≡ frame_of prev at e ++ (chain_of (checksum_of prev at e) (at + size_of e) es ++ x)
-    parted e es x = ap (λ (l : List ℕ). l ++ x) (chain_of-cons prev at e es) ∙ append_assoc (frame_of prev at e) (chain_of (checksum_of prev at e) (at + size_of e) es) x
+use Rattle.binlog_file.proofs.MeetLemmas.{one_here}
 
 -- the frames of a list of transactions begin with those of its first one
 first_parted : (prev at : ℕ) (t : Transaction) (list : List Transaction) (rest : List ℕ)
@@ -78,8 +59,8 @@ one_list prev at bytes [] (y ∷ ys) sx sy = absurd (none_first prev at bytes y 
 one_list prev at bytes (x ∷ xs) [] sx sy = absurd (none_first prev at bytes x xs sy sx)
 one_list prev at bytes (x ∷ xs) (y ∷ ys) sx sy =
     let spelt = sym (sx.stands ∙ first_parted prev at x xs sx.rest) ∙ sy.stands ∙ first_parted prev at y ys sy.rest in
-    let both = same_chain prev at (events_of x) (events_of y) _ _ refl (first_ends at x xs sx.ends).0 (first_ends at y ys sy.ends).0 spelt in
-    let same = (one_transaction x y [] [] (sx.fit).0 (sy.fit).0 (append-nil (events_of x) ∙ both.0 ∙ sym (append-nil (events_of y)))).0 in
+    let both = one_here prev at x y _ _ (sx.fit).0 (sy.fit).0 (first_ends at x xs sx.ends).0 (first_ends at y ys sy.ends).0 spelt in
+    let same = both.0 in
     let behind : List ℕ = chain_of (last_checksum prev at (events_of x)) (end_of at (events_of x)) (all_events xs) ++ sx.rest in
     let other = subst (λ (t : Transaction). Stands (last_checksum prev at (events_of t)) (end_of at (events_of t)) behind ys) (sym same) (others_stand prev at bytes y ys sy behind both.1) in
     let rest = one_list (last_checksum prev at (events_of x)) (end_of at (events_of x)) behind xs ys (others_stand prev at bytes x xs sx behind refl) other in

@@ -1,30 +1,47 @@
 -- Reading the log piece by piece.
-use Rattle.std.proofs.Common.{◌≡◌, ◌⊎◌, ⊎_elim, ℕ, ◌+◌, ◌-◌, ◌<◌, ◌≤◌, Bool, true, false, nat_lt, List, [], ◌∷◌, ◌++◌, length, take, drop, Option, Some, None, IfSome, IfNone, IsTrue, refl, sym, ◌∙◌, ap, subst, arith, append_assoc, length-append, take-append-drop}
+use Rattle.std.proofs.Common.{◌≡◌, ℕ, ◌+◌, ◌-◌, ◌<◌, ◌≤◌, ◌*◌, ◌^◌, max, Bool, true, false, nat_lt, List, [], ◌∷◌, ◌++◌, length, take, drop, Option, Some, None, IfSome, IfNone, Result, Ok, Err, IsTrue, refl, sym, ◌∙◌, ap, subst, arith, append_assoc, length-append, take-append-drop}
 use Rattle.std.proofs.lemmas.List.{append-nil, take_at, drop_at, drop_all, length-drop, length-take}
 use Rattle.std.proofs.lemmas.Bool.Decides.{nat_tests}
-use Rattle.disk_model.specs.File.{File}
-use Rattle.disk_model.specs.Disk.{Disk, contents, Fills}
+use Rattle.std.specs.Prelude.{IsErr, IsErrAnd, IsErrOf}
+use Rattle.fault_counts.specs.Rose.{Rose}
+use Rattle.disk_model.specs.declared.storage.Failed.{Failed}
+use Rattle.disk_model.specs.File.{File, Stays}
+use Rattle.disk_model.specs.Disk.{Disk, contents, Called, Fills, HasCause}
 use Rattle.disk_model.specs.Looking.{LooksOnly}
-use Rattle.disk_model.proofs.LookingLemmas.{looked}
+use Rattle.disk_model.proofs.LookingLemmas.{looked, rose_looking}
 use Rattle.frame_codec.specs.Frame.{Event, limit}
 use Rattle.frame_codec.specs.Chain.{chain_of, end_of, last_checksum}
 use Rattle.frame_codec.proofs.ChainLemmas.{chain_of-nil, chain_of-append, length-chain_of}
 use Rattle.framed_file.specs.Framed.{IsPrefix, header_len}
-use Rattle.framed_file.proofs.PrefixLemmas.{prefixes_meet}
 use Rattle.binlog_events.specs.declared.events.Found.{Found}
 use Rattle.binlog_file.specs.declared.scan.Scan.{Scan}
+use Rattle.binlog_file.specs.declared.fault.BinlogFault.{BinlogFault}
+use Rattle.binlog_file.specs.declared.fault.BinlogFault.TheVariants.{Device, Memory}
 use Rattle.row_format.specs.declared.change.Transaction.{Transaction}
 use Rattle.binlog_events.specs.Transaction.{events_of}
 use Rattle.binlog_file.specs.Logged.{header_checksum, log_header, all_events, log_end, log_checksum, log_of, AreFit}
 use Rattle.binlog_events.specs.Found.{Finds, NoTransactionAt}
-use Rattle.binlog_file.specs.Opening.{Reached, Walks, Walked}
-use Rattle.binlog_events.proofs.TransactionLemmas.{length-events_of}
-use Rattle.binlog_file.proofs.LoggedLemmas.{all_events-append, all_events_one, AreFit-append}
+use Rattle.binlog_file.specs.Opening.{Reached, Needs, NeverAt, CutOff, Walks, Further, Walked}
+use Rattle.binlog_file.proofs.LoggedLemmas.{some_bytes, all_events-append, all_events_one, AreFit-append}
 use Rattle.binlog_file.proofs.CallLemmas.{length-log_of, log_of-append, log_end-append, log_checksum-append}
+
+-- what an option's clause says of its value
+
+pub some_is : {A : Type 0} (o : Option A) (v : A) (P : A → Type 0) → o ≡ Some v → IfSome o P → P v
+some_is None v P is if_some = cc
+some_is (Some w) v P is if_some = let same : w ≡ v = cc in subst P same if_some
+
+pub none_is : {A : Type 0} (o : Option A) (P : Type 0) → o ≡ None → IfNone o P → P
+none_is None P is if_none = if_none
+none_is (Some w) P is if_none = cc
+
+pub shorter : (xs : List ℕ) (n : ℕ) → 0 < n → n ≤ length xs → length (take (length xs - n) (drop n xs)) < length xs
+shorter xs n some within = omega (arith, length-take (length xs - n) (drop n xs), length-drop n xs)
 
 -- where a reading stands within a piece
 pub record Walking (old_stands new_stands : List Transaction → Type 0) (old scan : Scan) (bytes rest : List ℕ) : Type 0 where
   pub size : scan.len + length rest ≡ old.len + length bytes
+  pub later : old.len ≤ scan.len
   pub so_far : (list : List Transaction) → Reached old list
       → (more : List Transaction) × Reached scan (list ++ more) × ((some : List Transaction) → old_stands some → new_stands (some ++ more))
       × (bytes ≡ chain_of (log_checksum list) (log_end list) (all_events more) ++ rest)
@@ -32,6 +49,7 @@ pub record Walking (old_stands new_stands : List Transaction → Type 0) (old sc
 pub walk_first : (stands : List Transaction → Type 0) (scan : Scan) (bytes : List ℕ) → Walking stands stands scan scan bytes bytes
 walk_first stands scan bytes = record {
   size = refl;
+  later = omega arith;
   so_far = λ list reached. (
     [],
     subst (λ (l : List Transaction). Reached scan l) (sym (append-nil list)) reached,
@@ -46,7 +64,7 @@ found_size prev at rest found finds =
 
 pub found_fits : (prev at : ℕ) (rest : List ℕ) (found : Found) → Finds prev at rest found → (at + found.len ≤ limit) × (found.len ≤ length rest) × (0 < found.len)
 found_fits prev at rest found finds =
-    (omega (arith, finds.len, finds.here.ends), found_size prev at rest found finds, omega (arith, finds.len, (length-events_of at found.txn finds.here.fit).0))
+    (omega (arith, finds.len, finds.here.ends), found_size prev at rest found finds, omega (arith, finds.len, some_bytes at found.txn))
 
 -- one transaction more
 pub walk_more : (first stands next : List Transaction → Type 0) (old scan new : Scan) (bytes rest rest' : List ℕ) (found : Found)
@@ -56,6 +74,7 @@ pub walk_more : (first stands next : List Transaction → Type 0) (old scan new 
     → Walking first next old new bytes rest'
 walk_more first stands next old scan new bytes rest rest' found walking finds visit count len crc rest_is = record {
   size = omega (arith, walking.size, len, ap length rest_is, length-drop found.len rest, found_size scan.crc scan.len rest found finds);
+  later = omega (arith, walking.later, len);
   so_far = λ list reached.
       let so = walking.so_far list reached in
       let there = so.1 in
@@ -97,52 +116,62 @@ walk_more first stands next old scan new bytes rest rest' found walking finds vi
         ∙ ap (λ (l : List ℕ). l ++ tail) (sym (chain_of-append (log_checksum list) (log_end list) (all_events more) (all_events (one ∷ []))))
         ∙ ap (λ (l : List Event). chain_of (log_checksum list) (log_end list) l ++ tail) (sym (all_events-append more (one ∷ [])))
 
--- where at least as many bytes stand as the longest transaction has, what follows does not matter
-long_enough : (prev at : ℕ) (rest beyond : List ℕ) → 134 ≤ length rest → NoTransactionAt prev at rest → NoTransactionAt prev at (rest ++ beyond)
-long_enough prev at rest beyond long none t here = ⊎_elim within past (prefixes_meet chain rest (rest ++ beyond) (here.rest, here.stands) (beyond, refl))
-  where
-    chain : List ℕ
-    chain = chain_of prev at (events_of t)
-
-    short : length chain ≤ length rest
-    short = omega (arith, length-chain_of prev at (events_of t), (length-events_of at t here.fit).1, long)
-
-    within : IsPrefix chain rest → ⊥
-    within is = none t (record { fit = here.fit; ends = here.ends; rest = is.0; stands = is.1 })
-
-    past : IsPrefix rest chain → ⊥
-    past is = nothing is.0 is.1
-      where
-        nothing : (xs : List ℕ) → chain ≡ rest ++ xs → ⊥
-        nothing [] same = within ([], sym (append-nil rest) ∙ sym same ∙ sym (append-nil chain))
-        nothing (x ∷ xs) same = absurd (omega (arith, ap length same, length-append rest (x ∷ xs), short))
-
--- the end of the transactions in a piece
-pub walk_end : (first stands : List Transaction → Type 0) (old scan : Scan) (bytes rest : List ℕ) (is_last : Bool)
-    → Walking first stands old scan bytes rest → NoTransactionAt scan.crc scan.len rest → (is_last ≡ true) ⊎ (134 ≤ length rest)
-    → (list : List Transaction) → Reached old list → Walks first stands list bytes scan is_last true
-walk_end first stands old scan bytes rest is_last walking none why list reached =
+-- what was read of a piece
+walked_so : (first stands : List Transaction → Type 0) (old scan : Scan) (bytes rest : List ℕ) (is_last : Bool) (needs : Option ℕ) → Walking first stands old scan bytes rest
+    → (needs ≡ None → (beyond : List ℕ) → (is_last ≡ true → beyond ≡ []) → NoTransactionAt scan.crc scan.len (rest ++ beyond))
+    → IfSome needs (λ n. (is_last ≡ false) × Needs scan.crc scan.len rest n)
+    → (list : List Transaction) → Reached old list → Walks first stands list bytes scan is_last needs
+walked_so first stands old scan bytes rest is_last needs walking none goes_on list reached =
     let so = walking.so_far list reached in
-    let here : NoTransactionAt (log_checksum (list ++ so.0)) (log_end (list ++ so.0)) rest =
-    subst (λ (c : ℕ). NoTransactionAt c (log_end (list ++ so.0)) rest) (so.1).crc (subst (λ (n : ℕ). NoTransactionAt scan.crc n rest) (so.1).len none) in
+    let all = list ++ so.0 in
     record {
       more = so.0;
       reached = so.1;
       visited = so.2;
       rest = rest;
       split = so.3;
-      none = λ ended beyond is. ⊎_elim
-          (λ last. subst (λ (l : List ℕ). NoTransactionAt (log_checksum (list ++ so.0)) (log_end (list ++ so.0)) l) (sym (ap (λ (l : List ℕ). rest ++ l) (is last) ∙ append-nil rest)) here)
-          (λ long. long_enough (log_checksum (list ++ so.0)) (log_end (list ++ so.0)) rest beyond long here)
-          why;
+      none = λ is beyond last. subst (λ (c : ℕ). NoTransactionAt c (log_end all) (rest ++ beyond)) (so.1).crc
+          (subst (λ (n : ℕ). NoTransactionAt scan.crc n (rest ++ beyond)) (so.1).len (none is beyond last));
+      goes_on = cut needs all so.1 goes_on;
+    }
+  where
+    cut : (o : Option ℕ) (all : List Transaction) → Reached scan all → IfSome o (λ n. (is_last ≡ false) × Needs scan.crc scan.len rest n) → IfSome o (CutOff all rest is_last)
+    cut None all there so = tt
+    cut (Some n) all there so = record {
+      not_last = so.0;
+      needs = subst (λ (c : ℕ). Needs c (log_end all) rest n) there.crc (subst (λ (k : ℕ). Needs scan.crc k rest n) there.len so.1);
     }
 
--- less than the longest transaction is left
-pub walk_short : (first stands : List Transaction → Type 0) (old scan : Scan) (bytes rest : List ℕ) (is_last : Bool)
-    → Walking first stands old scan bytes rest → (list : List Transaction) → Reached old list → Walks first stands list bytes scan is_last false
-walk_short first stands old scan bytes rest is_last walking list reached =
-    let so = walking.so_far list reached in
-    record { more = so.0; reached = so.1; visited = so.2; rest = rest; split = so.3; none = λ no. let e = no in cc }
+-- the last piece ends behind its transactions
+pub walk_end : (first stands : List Transaction → Type 0) (old scan : Scan) (bytes rest : List ℕ) (is_last : Bool)
+    → Walking first stands old scan bytes rest → NoTransactionAt scan.crc scan.len rest → is_last ≡ true
+    → (list : List Transaction) → Reached old list → Walks first stands list bytes scan is_last None
+walk_end first stands old scan bytes rest is_last walking none last = walked_so first stands old scan bytes rest is_last None walking
+    (λ is beyond nothing. subst (λ (l : List ℕ). NoTransactionAt scan.crc scan.len l) (sym (ap (λ (l : List ℕ). rest ++ l) (nothing last) ∙ append-nil rest)) none)
+    tt
+
+-- another piece is cut off there
+pub walk_cut : (first stands : List Transaction → Type 0) (old scan : Scan) (bytes rest : List ℕ) (is_last : Bool) (needs : Option ℕ)
+    → Walking first stands old scan bytes rest → is_last ≡ false → IfSome needs (Needs scan.crc scan.len rest) → IfNone needs (NeverAt scan.crc scan.len rest)
+    → (list : List Transaction) → Reached old list → Walks first stands list bytes scan is_last needs
+walk_cut first stands old scan bytes rest is_last needs walking not_last some never = walked_so first stands old scan bytes rest is_last needs walking
+    (λ is beyond last. none_is needs (NeverAt scan.crc scan.len rest) is never beyond)
+    (with_it needs some)
+  where
+    with_it : (o : Option ℕ) → IfSome o (Needs scan.crc scan.len rest) → IfSome o (λ n. (is_last ≡ false) × Needs scan.crc scan.len rest n)
+    with_it None so = tt
+    with_it (Some n) so = (not_last, so)
+
+-- and then the reading comes further, or the piece is too short
+pub walk_further : (first stands : List Transaction → Type 0) (old scan : Scan) (bytes rest : List ℕ) (is_last : Bool) (needs : Option ℕ)
+    → Walking first stands old scan bytes rest → is_last ≡ false → IfSome needs (Needs scan.crc scan.len rest) → IfSome needs (Further old scan bytes is_last)
+walk_further first stands old scan bytes rest is_last None walking not_last so = tt
+walk_further first stands old scan bytes rest is_last (Some n) walking not_last so = record {
+  not_last = not_last;
+  later = walking.later;
+  more = omega (arith, walking.size, so.more);
+  within = so.within;
+}
 
 -- Pieces of the file.
 
@@ -168,38 +197,62 @@ record Piece (bytes rest : List ℕ) (is_last : Bool) : Type 0 where
   split : rest ≡ bytes ++ beyond
   last : is_last ≡ true → beyond ≡ []
 
-piece_of : (all rest buf_old buf_new bytes : List ℕ) (list : List Transaction) (at n : ℕ) (is_last : Bool) → all ≡ log_of list ++ rest → at ≡ log_end list → Fills all at buf_old n buf_new
-    → length buf_new ≡ length buf_old → bytes ≡ take n buf_new → is_last ≡ nat_lt n (length buf_new) → Piece bytes rest is_last
-piece_of all rest buf_old buf_new bytes list at n is_last all_is at_is fills same bytes_is last_is =
+-- a piece as it was read from the log at a place
+pub record IsPiece (d : Disk) (at n : ℕ) (old new bytes : List ℕ) (is_last : Bool) : Type 0 where
+  pub fills : IsTrue d.told → Fills (contents d 0) at old n new
+  pub same : length new ≡ length old
+  pub bytes_are : bytes ≡ take n new
+  pub last : is_last ≡ nat_lt n (length new)
+
+-- a piece as a reading takes it from a buffer
+pub piece_is : (d : Disk) (at n : ℕ) (old new held bytes : List ℕ) (len : ℕ) (is_last : Bool) → (IsTrue d.told → Fills (contents d 0) at old n new) → length new ≡ length old
+    → held ≡ new → len ≡ length new → bytes ≡ take n held → is_last ≡ nat_lt n len → IsPiece d at n old new bytes is_last
+piece_is d at n old new held bytes len is_last fills same held_is len_is bytes_is last_is = record {
+  fills = fills;
+  same = same;
+  bytes_are = bytes_is ∙ ap (λ (l : List ℕ). take n l) held_is;
+  last = last_is ∙ ap (λ (k : ℕ). nat_lt n k) len_is;
+}
+
+piece_of : (d : Disk) (rest buf_old buf_new bytes : List ℕ) (list : List Transaction) (at n : ℕ) (is_last : Bool) → contents d 0 ≡ log_of list ++ rest → at ≡ log_end list → IsTrue d.told
+    → IsPiece d at n buf_old buf_new bytes is_last → Piece bytes rest is_last
+piece_of d rest buf_old buf_new bytes list at n is_last all_is at_is told is_piece =
+    let all = contents d 0 in
+    let fills = is_piece.fills told in
     let behind : drop at all ≡ rest = ap (λ (l : List ℕ). drop at l) all_is ∙ drop_at (log_of list) rest at (omega (arith, at_is, length-log_of list)) in
     let size : length all ≡ at + length rest = omega (arith, ap length all_is, length-append (log_of list) rest, length-log_of list, at_is) in
     let front : bytes ≡ take n rest =
-    bytes_is ∙ ap (λ (l : List ℕ). take n l) fills.bytes_are ∙ take_at (take n (drop at all)) (drop n buf_old) n (omega (arith, length-take n (drop at all), ap length behind, size, fills.count))
+    is_piece.bytes_are ∙ ap (λ (l : List ℕ). take n l) fills.bytes_are ∙ take_at (take n (drop at all)) (drop n buf_old) n (omega (arith, length-take n (drop at all), ap length behind, size, fills.count))
     ∙ ap (λ (l : List ℕ). take n l) behind in
     record {
       beyond = drop n rest;
       split = sym (take-append-drop n rest) ∙ ap (λ (l : List ℕ). l ++ drop n rest) (sym front);
-      last = λ is. drop_all n rest (let less : n < length buf_new = grind (arith, nat_tests) in omega (arith, fills.count, size, same, less));
+      last = λ is. let same = is_piece.same in let tested : nat_lt n (length buf_new) ≡ true = sym is_piece.last ∙ is in
+          drop_all n rest (let less : n < length buf_new = grind (arith, nat_tests) in omega (arith, fills.count, size, same, less));
     }
 
--- a piece was read
-pub reading_more : (first stands next : List Transaction → Type 0) (start d : Disk) (scan new : Scan) (buf_old buf_new bytes : List ℕ) (n at : ℕ) (is_last ended : Bool)
-    → LooksOnly start d → Reading first stands start scan → at ≡ scan.len → (IsTrue d.told → Fills (contents d 0) at buf_old n buf_new)
-    → length buf_new ≡ length buf_old → bytes ≡ take n buf_new → is_last ≡ nat_lt n (length buf_new)
-    → ended ≡ false → ((list : List Transaction) → Reached scan list → Walks stands next list bytes new is_last ended)
-    → Reading first next start new
-reading_more first stands next start d scan new buf_old buf_new bytes n at is_last ended looks reading at_is fills same bytes_is last_is ended_is walks = record {
-  so_far = λ told headed.
-      let so = reading.so_far told headed in
-      let piece = piece_of (contents d 0) so.3 buf_old buf_new bytes so.0 at n is_last (ap (λ (f : File). f.bytes) (looked start d looks told 0) ∙ so.4) (at_is ∙ (so.1).len) (fills (subst IsTrue (sym looks.told) told)) same bytes_is last_is in
-      let walk = walks so.0 so.1 in (
-        so.0 ++ walk.more,
-        walk.reached,
-        λ some visited. subst next (append_assoc some so.0 walk.more) (walk.visited (some ++ so.0) (so.2 some visited)),
-        walk.rest ++ piece.beyond,
-        so.4 ∙ further so.0 walk.more bytes so.3 walk.rest piece.beyond piece.split walk.split,
-      );
-}
+-- what a piece leaves behind its transactions
+record Behind (first next : List Transaction → Type 0) (start : Disk) (new : Scan) (rest : List ℕ) (is_last : Bool) (all : List Transaction) : Type 0 where
+  reached : Reached new all
+  visited : (some : List Transaction) → first some → next (some ++ all)
+  beyond : List ℕ
+  stands : contents start 0 ≡ log_of all ++ (rest ++ beyond)
+  last : is_last ≡ true → beyond ≡ []
+
+behind_piece : (first stands next : List Transaction → Type 0) (start d : Disk) (scan new : Scan) (buf_old buf_new bytes : List ℕ) (n at : ℕ) (is_last : Bool) (needs : Option ℕ)
+    → LooksOnly start d → at ≡ scan.len → IsPiece d at n buf_old buf_new bytes is_last → IsTrue start.told
+    → (list : List Transaction) → Reached scan list → ((some : List Transaction) → first some → stands (some ++ list)) → (behind : List ℕ) → contents start 0 ≡ log_of list ++ behind
+    → (walk : Walks stands next list bytes new is_last needs) → Behind first next start new walk.rest is_last (list ++ walk.more)
+behind_piece first stands next start d scan new buf_old buf_new bytes n at is_last needs looks at_is is_piece told list reached visited behind so walk =
+    let here = ap (λ (f : File). f.bytes) (looked start d looks told 0) ∙ so in
+    let piece = piece_of d behind buf_old buf_new bytes list at n is_last here (at_is ∙ reached.len) (subst IsTrue (sym looks.told) told) is_piece in
+    record {
+      reached = walk.reached;
+      visited = λ some before. subst next (append_assoc some list walk.more) (walk.visited (some ++ list) (visited some before));
+      beyond = piece.beyond;
+      stands = so ∙ further list walk.more bytes behind walk.rest piece.beyond piece.split walk.split;
+      last = piece.last;
+    }
   where
     further : (list more : List Transaction) (bytes rest rest' beyond : List ℕ) → rest ≡ bytes ++ beyond
         → bytes ≡ chain_of (log_checksum list) (log_end list) (all_events more) ++ rest' → log_of list ++ rest ≡ log_of (list ++ more) ++ (rest' ++ beyond)
@@ -208,40 +261,98 @@ reading_more first stands next start d scan new buf_old buf_new bytes n at is_la
         ∙ sym (append_assoc (log_of list) (chain_of (log_checksum list) (log_end list) (all_events more)) (rest' ++ beyond))
         ∙ ap (λ (l : List ℕ). l ++ (rest' ++ beyond)) (sym (log_of-append list more))
 
--- and it was the end
-pub reading_end : (first stands next : List Transaction → Type 0) (start d : Disk) (scan new : Scan) (buf_old buf_new bytes : List ℕ) (n at : ℕ) (is_last ended : Bool)
-    → LooksOnly start d → Reading first stands start scan → at ≡ scan.len → (IsTrue d.told → Fills (contents d 0) at buf_old n buf_new)
-    → length buf_new ≡ length buf_old → bytes ≡ take n buf_new → is_last ≡ nat_lt n (length buf_new)
-    → ended ≡ true → ((list : List Transaction) → Reached scan list → Walks stands next list bytes new is_last ended)
+-- a piece was read
+pub reading_more : (first stands next : List Transaction → Type 0) (start d : Disk) (scan new : Scan) (buf_old buf_new bytes : List ℕ) (n at : ℕ) (is_last : Bool) (needs : Option ℕ)
+    → LooksOnly start d → Reading first stands start scan → at ≡ scan.len → IsPiece d at n buf_old buf_new bytes is_last
+    → ((list : List Transaction) → Reached scan list → Walks stands next list bytes new is_last needs)
+    → Reading first next start new
+reading_more first stands next start d scan new buf_old buf_new bytes n at is_last needs looks reading at_is is_piece walks = record {
+  so_far = λ told headed.
+      let so = reading.so_far told headed in
+      let walk = walks so.0 so.1 in
+      let behind = behind_piece first stands next start d scan new buf_old buf_new bytes n at is_last needs looks at_is is_piece told so.0 so.1 so.2 so.3 so.4 walk in
+      (so.0 ++ walk.more, behind.reached, behind.visited, walk.rest ++ behind.beyond, behind.stands);
+}
+
+-- all was read
+whole : (first next : List Transaction → Type 0) (start : Disk) (new : Scan) (rest : List ℕ) (is_last : Bool) (all : List Transaction) → (behind : Behind first next start new rest is_last all)
+    → NoTransactionAt (log_checksum all) (log_end all) (rest ++ behind.beyond) → Walked first next (contents start 0) new
+whole first next start new rest is_last all behind none = record {
+  list = all;
+  reached = behind.reached;
+  visited = behind.visited;
+  headed = record {
+    fit = (behind.reached).fit;
+    ends = (behind.reached).ends;
+    rest = rest ++ behind.beyond;
+    stands = behind.stands;
+    no_more = none;
+  };
+}
+
+-- a piece was read, and it was the end
+pub reading_end : (first stands next : List Transaction → Type 0) (start d : Disk) (scan new : Scan) (buf_old buf_new bytes : List ℕ) (n at : ℕ) (is_last : Bool) (needs : Option ℕ)
+    → LooksOnly start d → Reading first stands start scan → at ≡ scan.len → IsPiece d at n buf_old buf_new bytes is_last
+    → ((list : List Transaction) → Reached scan list → Walks stands next list bytes new is_last needs) → needs ≡ None
     → IsTrue start.told → IsPrefix log_header (contents start 0) → Walked first next (contents start 0) new
-reading_end first stands next start d scan new buf_old buf_new bytes n at is_last ended looks reading at_is fills same bytes_is last_is ended_is walks told headed =
+reading_end first stands next start d scan new buf_old buf_new bytes n at is_last needs looks reading at_is is_piece walks none told headed =
     let so = reading.so_far told headed in
-    let piece = piece_of (contents d 0) so.3 buf_old buf_new bytes so.0 at n is_last (ap (λ (f : File). f.bytes) (looked start d looks told 0) ∙ so.4) (at_is ∙ (so.1).len) (fills (subst IsTrue (sym looks.told) told)) same bytes_is last_is in
     let walk = walks so.0 so.1 in
-    record {
-      list = so.0 ++ walk.more;
-      reached = walk.reached;
-      visited = λ some visited. subst next (append_assoc some so.0 walk.more) (walk.visited (some ++ so.0) (so.2 some visited));
-      headed = record {
-        fit = (walk.reached).fit;
-        ends = (walk.reached).ends;
-        rest = walk.rest ++ piece.beyond;
-        stands = so.4 ∙ ap (λ (l : List ℕ). log_of so.0 ++ l) (piece.split ∙ ap (λ (l : List ℕ). l ++ piece.beyond) walk.split ∙ append_assoc (chain_of (log_checksum so.0) (log_end so.0) (all_events walk.more)) walk.rest piece.beyond)
-            ∙ sym (append_assoc (log_of so.0) (chain_of (log_checksum so.0) (log_end so.0) (all_events walk.more)) (walk.rest ++ piece.beyond))
-            ∙ ap (λ (l : List ℕ). l ++ (walk.rest ++ piece.beyond)) (sym (log_of-append so.0 walk.more));
-        no_more = walk.none ended_is piece.beyond piece.last;
-      };
-    }
+    let behind = behind_piece first stands next start d scan new buf_old buf_new bytes n at is_last needs looks at_is is_piece told so.0 so.1 so.2 so.3 so.4 walk in
+    whole first next start new walk.rest is_last (so.0 ++ walk.more) behind (walk.none none behind.beyond behind.last)
 
--- what an option's clause says of its value
+-- or the file has fewer bytes behind it than a transaction needs there
+pub reading_short : (first stands next : List Transaction → Type 0) (start d last : Disk) (scan new : Scan) (buf_old buf_new bytes : List ℕ) (n at needed : ℕ) (is_last : Bool) (needs : Option ℕ)
+    → LooksOnly start d → LooksOnly start last → Reading first stands start scan → at ≡ scan.len → IsPiece d at n buf_old buf_new bytes is_last
+    → ((list : List Transaction) → Reached scan list → Walks stands next list bytes new is_last needs) → needs ≡ Some needed
+    → (IsTrue last.told → length (contents last 0) < new.len + needed)
+    → IsTrue start.told → IsPrefix log_header (contents start 0) → Walked first next (contents start 0) new
+reading_short first stands next start d last scan new buf_old buf_new bytes n at needed is_last needs looks looks_last reading at_is is_piece walks some short told headed =
+    let so = reading.so_far told headed in
+    let walk = walks so.0 so.1 in
+    let all = so.0 ++ walk.more in
+    let behind = behind_piece first stands next start d scan new buf_old buf_new bytes n at is_last needs looks at_is is_piece told so.0 so.1 so.2 so.3 so.4 walk in
+    let rest = walk.rest ++ behind.beyond in
+    let size : length (contents start 0) ≡ new.len + length rest =
+    omega (arith, ap length behind.stands, length-append (log_of all) rest, length-log_of all, (behind.reached).len) in
+    let same = ap (λ (f : File). length f.bytes) (looked start last looks_last told 0) in
+    let less : length rest < needed = omega (arith, size, same, short (subst IsTrue (sym looks_last.told) told)) in
+    let cut = some_is needs needed (CutOff all walk.rest is_last) some walk.goes_on in
+    whole first next start new walk.rest is_last all behind (λ t here.
+    omega (arith, less, (cut.needs).least t behind.beyond here, ap length here.stands, length-append (chain_of (log_checksum all) (log_end all) (events_of t)) here.rest, length-chain_of (log_checksum all) (log_end all) (events_of t)))
 
-pub some_is : {A : Type 0} (o : Option A) (v : A) (P : A → Type 0) → o ≡ Some v → IfSome o P → P v
-some_is None v P is if_some = cc
-some_is (Some w) v P is if_some = let same : w ≡ v = cc in subst P same if_some
+-- ---- errors, and what is left
 
-pub none_is : {A : Type 0} (o : Option A) (P : Type 0) → o ≡ None → IfNone o P → P
-none_is None P is if_none = if_none
-none_is (Some w) P is if_none = cc
+-- want of memory is no failure of the device
+pub not_device : {T : Type 0} (answer : Result T BinlogFault) → IsErrAnd answer (λ e. e ≡ Memory) → IsErrOf answer Device → ⊥
+not_device (Ok scan) memory device = absurd memory
+not_device (Err e) memory device = let first = memory in let second = device in cc
 
-pub shorter : (xs : List ℕ) (n : ℕ) → 0 < n → n ≤ length xs → length (take (length xs - n) (drop n xs)) < length xs
-shorter xs n some within = omega (arith, length-take (length xs - n) (drop n xs), length-drop n xs)
+-- an error that is passed on is the same one
+pub same_fault : {T U : Type 0} (inner : Result T BinlogFault) (outer : Result U BinlogFault) (it : BinlogFault) → inner ≡ Err it → IsErrAnd outer (λ e. e ≡ it)
+    → (e : BinlogFault) → outer ≡ Err e → inner ≡ Err e
+same_fault inner (Ok value) it is same e of = absurd same
+same_fault inner (Err x) it is same e of = let first = same in cc
+
+-- a call that failed behind calls that only looked, and one that passed the failure on
+pub call_failed : {T : Type 0} (start old new : Disk) (result : Result T Failed) → LooksOnly start old → Called 0 Stays result old new → IsErr result → Rose start.faults new.faults
+call_failed start old new result looks called is = rose_looking start old new looks (called.cause is)
+
+pub rose_behind : {T : Type 0} (inner : Result T BinlogFault) (start old new : Disk) → LooksOnly start old → HasCause (λ r. IsErrOf r Device) inner old new → IsErrOf inner Device
+    → Rose start.faults new.faults
+rose_behind inner start old new looks cause is = rose_looking start old new looks (cause.cause is)
+
+-- a piece that was made longer has at most 2 ^ 32 bytes
+pub small_grown : (piece read needed grown new : ℕ) → piece ≤ 2 ^ 32 → new + needed ≤ limit → read ≡ piece → grown ≤ max read (2 * needed) → grown ≤ 2 ^ 32
+small_grown piece read needed grown new small within same bounded = omega arith
+
+-- a reading that comes further, or whose piece grows, has less left
+pub less_left : (old new piece bytes needed grown : ℕ) → old ≤ new → new + needed ≤ limit → piece ≤ 2 ^ 32 → bytes ≡ piece → old + bytes < new + needed → max piece needed ≤ grown
+    → grown ≤ 2 ^ 32 → (limit - new) * 4294967297 + (4294967296 - grown) < (limit - old) * 4294967297 + (4294967296 - piece)
+less_left old new piece bytes needed grown later within piece_small all further grown_is small = omega arith
+
+-- a piece that is not the last is full
+pub full : (n size : ℕ) (held : List ℕ) → nat_lt n size ≡ false → n ≤ size → size ≡ length held → length (take n held) ≡ size
+full n size held more count size_is =
+    let reaches : size ≤ n = grind (arith, nat_tests) in
+    omega (arith, length-take n held, reaches)

@@ -78,7 +78,7 @@ fn grow(
     ensures grown { IfOk result (λ b. b ≡ true
         → max (length piece.old.items) needed ≤ length piece.new.items) }
     ensures bounded { IfOk result (λ b.
-        length piece.new.items ≤ 2 * max (length piece.old.items) needed) }
+        length piece.new.items ≤ max (length piece.old.items) (2 * needed)) }
     ensures in_file { IsTrue (disk volume.old).told → IfOk result (λ b.
         length piece.new.items ≤ max (length piece.old.items)
         (length (contents (disk volume.old) 0) - at)) }

@@ -1,14 +1,16 @@
-use Rattle.std.proofs.Common.{◌-◌, ◌≡◌, length}
+use Rattle.std.proofs.Common.{◌+◌, ◌-◌, ◌*◌, ◌≤◌, ◌^◌, length}
 use Rattle.disk_model.specs.Looking.{LooksOnly}
 use Rattle.binlog_file.proofs.WalkLemmas.{Reading}
 use Rattle.binlog_file.proofs.walk.read_all.Given as goal
 
-abbrev pub invariant-loop-chunk : goal.invariant-loop-chunk
-invariant-loop-chunk g l =
+abbrev pub invariant-loop-piece : goal.invariant-loop-piece
+invariant-loop-piece g l =
     let start = (goal.Storage-dyn g l.fn.volume.now).disk l.fn.volume.now.1 in
-    LooksOnly start ((goal.Storage-dyn g l.volume.now).disk l.volume.now.1)
-    × Reading (g.V.Visit.stands l.fn.visit) (g.V.Visit.stands l.visit) start l.scan
-    × (length l.buf ≡ 65536)
+    record {
+      looks : LooksOnly start ((goal.Storage-dyn g l.volume.now).disk l.volume.now.1);
+      reading : Reading (g.V.Visit.stands l.fn.visit) (g.V.Visit.stands l.visit) start l.scan;
+      small : length l.piece.items ≤ 2 ^ 32;
+    }
 
-abbrev pub decreases-loop-chunk : goal.decreases-loop-chunk
-decreases-loop-chunk g l = 2147483647 - l.scan.len
+abbrev pub decreases-loop-piece : goal.decreases-loop-piece
+decreases-loop-piece g l = (2147483647 - l.scan.len) * 4294967297 + (4294967296 - length l.piece.items)
