@@ -6,7 +6,9 @@
 
 mod ack;
 mod command;
+mod coordinator;
 mod dir_storage;
+mod kernel;
 mod log_one;
 mod play;
 mod reply;
