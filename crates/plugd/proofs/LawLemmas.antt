@@ -19,9 +19,9 @@ use Rattle.plugd.specs.declared.run.Status.{Status}
 use Rattle.plugd.specs.declared.run.Status.TheVariants as status
 use Rattle.plugd.specs.declared.server.Server.{Server}
 use Rattle.plugd.specs.Crash.{EachRecoverable, IsRecoverableVolume}
-use Rattle.plugd.specs.Run.{Ended, Refused, IsComplete, plain_status, fault_status, usage, refused, played}
+use Rattle.plugd.specs.Run.{Ended, Ends, Refused, IsComplete, plain_status, fault_status, usage, refused, played}
 use Rattle.plugd.specs.Serve.{Base}
-use Rattle.plugd.specs.Session.{input_limit, World, Ends}
+use Rattle.plugd.specs.Session.{input_limit, World}
 use Rattle.plugd.specs.Xids.{xids_of, AreGiven, AreDistinct}
 use Rattle.plugd.proofs.XidLemmas.{xids_of-append, given_distinct, distinct_front}
 

@@ -7,13 +7,14 @@ use Rattle.disk_model.specs.Disk.{Disk}
 use Rattle.outer_io.specs.Ends.{Took, Put, PutFront}
 use Rattle.plugd.specs.declared.play.Ending.{Ending}
 use Rattle.plugd.specs.declared.play.Ending.TheVariants.{EndOfInput, SourceFailed, TooLong}
+use Rattle.plugd.specs.declared.reply.Reply.{Reply}
 use Rattle.plugd.specs.declared.session.Session.{Session}
 use Rattle.plugd.specs.Lines.{Splits, closing, AreFirst}
 use Rattle.plugd.specs.Reply.{text_of}
+use Rattle.plugd.specs.Coordinator.{Telling, MayRest}
 use Rattle.plugd.specs.Serve.{Base}
-use Rattle.plugd.specs.Session.{input_limit, World, world, FaultsGoOn, Reading, IsEnd, AreSome, Ends}
+use Rattle.plugd.specs.Session.{input_limit, World, world, FaultsGoOn, Reading, IsEnd, AreSome, EndsIn}
 use Rattle.plugd.specs.Piece.{Written, Broken, PlaysBytes, Closes, PlaysPiece}
-use Rattle.plugd.proofs.ServeLemmas.{halts_of}
 use Rattle.plugd.proofs.LineLemmas.{first_more}
 
 took_more : (xs ys : List ℕ) (a b c : Option (List ℕ)) → Took xs a b → Took ys b c → Took (xs ++ ys) a c
@@ -35,28 +36,28 @@ fronts_more xs ys a b c first second =
     (xs ++ second.0, second.1, ap (λ (l : List ℕ). xs ++ l) second.2 ∙ sym (append_assoc xs second.0 second.1), puts_more xs second.0 a b c first second.3)
 
 -- all texts were spoken
-spoken_are : (base : Base) (start : World) (taken : List ℕ) (session : Session) (w : World) → (r : Reading base start taken session w) → Put (flat_map text_of r.standing.replies) start.held w.held
+spoken_are : {C : Type 0} {serves : Telling C} (base : Base) (start : World) (taken : List ℕ) (session : Session C) (w : World) → (r : Reading serves base start taken session w) → Put (flat_map text_of r.standing.replies) start.held w.held
 spoken_are base start taken session w r =
     subst (λ (l : List ℕ). Put l start.held w.held) (sym (r.standing.texts ∙ ap (λ (l : List ℕ). r.spoken ++ l) r.all_told ∙ append-nil r.spoken)) r.put
 
 -- a read failed
-pub source_failed : (room : ℕ) (base : Base) (start : World) (taken : List ℕ) (session : Session) (w : World) (left : Option (List ℕ)) (faults : ℕ) → Reading base start taken session w → length taken + room ≡ input_limit
-    → left ≡ w.left → Rose w.source_faults faults → w.source_faults ≤ faults
-    → Ends base start SourceFailed session.server (world w.disk left faults w.held w.sink_faults)
-source_failed room base start taken session w left faults r full same rose more = record {
+pub source_failed : {C : Type 0} {serves rests : Telling C} (ends : MayRest serves rests) (room : ℕ) (base : Base) (start : World) (taken : List ℕ) (session : Session C) (w : World) (left : Option (List ℕ)) (faults : ℕ) → Reading serves base start taken session w
+    → length taken + room ≡ input_limit → left ≡ w.left → Rose w.source_faults faults → w.source_faults ≤ faults
+    → EndsIn (rests session.core base) start SourceFailed (world w.disk left faults w.held w.sink_faults)
+source_failed ends room base start taken session w left faults r full same rose more = record {
   read = taken;
   lines = r.standing.lines;
   replies = r.standing.replies;
   took = took_same taken start.left w.left left r.took same;
   played = (omega (arith, full), r.standing.rest, r.standing.splits);
-  halts = halts_of base r.standing.lines r.standing.replies session.server w.disk r.standing.serving;
+  halts = ends session.core base r.standing.lines r.standing.replies r.standing.serving;
   told = spoken_are base start taken session w r;
   reason = let before = r.faults.source in omega (arith, before, rose);
   faults = record { source = let before = r.faults.source in omega (arith, before, more); sink = r.faults.sink };
 }
 
 -- nothing was left where a read gave nothing
-at_end : (base : Base) (start : World) (taken : List ℕ) (session : Session) (w : World) (left : Option (List ℕ)) → Reading base start taken session w → Took [] w.left left
+at_end : {C : Type 0} {serves : Telling C} (base : Base) (start : World) (taken : List ℕ) (session : Session C) (w : World) (left : Option (List ℕ)) → Reading serves base start taken session w → Took [] w.left left
     → ((xs : List ℕ) → w.left ≡ Some xs → xs ≡ []) → IsEnd start.left left
 at_end base start taken session w left r took none xs is =
     let one = r.took.told xs is in
@@ -64,9 +65,9 @@ at_end base start taken session w left r took none xs is =
     two.1 ∙ ap (λ (l : List ℕ). Some l) (sym two.2 ∙ none one.0 one.1)
 
 -- the input came to its end
-pub input_ended : (room : ℕ) (base : Base) (start : World) (taken : List ℕ) (old new : Session) (w : World) (left : Option (List ℕ)) (faults : ℕ) (end : Disk) (written : Written) → Reading base start taken old w → length taken + room ≡ input_limit
-    → Took [] w.left left → w.source_faults ≤ faults → ((xs : List ℕ) → w.left ≡ Some xs → xs ≡ []) → Closes old new (Ok tt) w.disk end written → written.before ≡ w.held → written.faults ≡ w.sink_faults
-    → Ends base start EndOfInput new.server (world end left faults written.after written.faults_after)
+pub input_ended : {C : Type 0} {serves rests : Telling C} (room : ℕ) (base : Base) (start : World) (taken : List ℕ) (old new : Session C) (w : World) (left : Option (List ℕ)) (faults : ℕ) (end : Disk) (written : Written) → Reading serves base start taken old w
+    → length taken + room ≡ input_limit → Took [] w.left left → w.source_faults ≤ faults → ((xs : List ℕ) → w.left ≡ Some xs → xs ≡ []) → Closes serves rests old new (Ok tt) written → written.before ≡ w.held → written.faults ≡ w.sink_faults
+    → EndsIn (rests new.core base) start EndOfInput (world end left faults written.after written.faults_after)
 input_ended room base start taken old new w left faults end written r full took more none closes held sink =
     let so = closes.ok base taken r.spoken r.standing r.all_told refl in
     record {
@@ -82,12 +83,12 @@ input_ended room base start taken old new w left faults end written r full took 
     }
 
 -- the sink failed, or there was no memory
-pub broken_ends : (base : Base) (start : World) (taken read played : List ℕ) (old new : Session) (ending : Ending) (w : World) (left : Option (List ℕ)) (faults : ℕ) (end : Disk) (written : Written) → (r : Reading base start taken old w)
-    → Took read start.left left → w.source_faults ≤ faults → Broken base played r.spoken ending new.server end written → ((lines : List (List ℕ)) → AreFirst played lines → AreSome start.left left read lines)
+pub broken_ends : {C : Type 0} {serves : Telling C} (P : List (List ℕ) → List Reply → Type 0) (base : Base) (start : World) (taken read played : List ℕ) (old : Session C) (ending : Ending) (w : World) (left : Option (List ℕ)) (faults : ℕ) (end : Disk) (written : Written)
+    → (r : Reading serves base start taken old w) → Took read start.left left → w.source_faults ≤ faults → Broken P played r.spoken ending written → ((lines : List (List ℕ)) → AreFirst played lines → AreSome start.left left read lines)
     → written.before ≡ w.held → written.faults ≡ w.sink_faults → written.faults ≤ written.faults_after
-    → Ends base start ending new.server (world end left faults written.after written.faults_after)
-broken_ends base start taken read played old new ending w left faults end written r took more broken some held sink step =
-    ⊎_elim (λ sinks. subst (λ (e : Ending). Ends base start e new.server after) (sym sinks.0) (record {
+    → EndsIn P start ending (world end left faults written.after written.faults_after)
+broken_ends P base start taken read played old ending w left faults end written r took more broken some held sink step =
+    ⊎_elim (λ sinks. subst (λ (e : Ending). EndsIn P start e after) (sym sinks.0) (record {
       read = read;
       lines = broken.lines;
       replies = broken.replies;
@@ -98,7 +99,7 @@ broken_ends base start taken read played old new ending w left faults end writte
       reason = let before = r.faults.sink in let rose = sinks.1 in omega (arith, before, rose, sink);
       faults = faults_on;
     }))
-    (λ memory. subst (λ (e : Ending). Ends base start e new.server after) (sym memory) (record {
+    (λ memory. subst (λ (e : Ending). EndsIn P start e after) (sym memory) (record {
       read = read;
       lines = broken.lines;
       replies = broken.replies;
@@ -124,9 +125,9 @@ broken_ends base start taken read played old new ending w left faults end writte
     faults_on = record { source = let before = r.faults.source in omega (arith, before, more); sink = let before = r.faults.sink in omega (arith, before, step, sink) }
 
 -- the piece was played
-pub reads_on : (base : Base) (start : World) (taken bytes : List ℕ) (old new : Session) (w : World) (left : Option (List ℕ)) (faults : ℕ) (end : Disk) (written : Written) → Reading base start taken old w
-    → Took bytes w.left left → w.source_faults ≤ faults → PlaysBytes bytes old new (Ok tt) w.disk end written → written.before ≡ w.held → written.faults ≡ w.sink_faults
-    → Reading base start (taken ++ bytes) new (world end left faults written.after written.faults_after)
+pub reads_on : {C : Type 0} {serves rests : Telling C} (base : Base) (start : World) (taken bytes : List ℕ) (old new : Session C) (w : World) (left : Option (List ℕ)) (faults : ℕ) (end : Disk) (written : Written) → Reading serves base start taken old w
+    → Took bytes w.left left → w.source_faults ≤ faults → PlaysBytes serves rests bytes old new (Ok tt) written → written.before ≡ w.held → written.faults ≡ w.sink_faults
+    → Reading serves base start (taken ++ bytes) new (world end left faults written.after written.faults_after)
 reads_on base start taken bytes old new w left faults end written r took more plays held sink =
     let so = plays.ok base taken r.spoken r.standing r.all_told refl in
     record {
@@ -139,11 +140,11 @@ reads_on base start taken bytes old new w left faults end written r took more pl
     }
 
 -- the input is too long
-pub too_long : (base : Base) (start : World) (taken bytes others : List ℕ) (old new : Session) (w : World) (left : Option (List ℕ)) (faults : ℕ) (end : Disk) (written : Written) → Reading base start taken old w
-    → Took (bytes ++ others) w.left left → w.source_faults ≤ faults → PlaysBytes bytes old new (Ok tt) w.disk end written → written.before ≡ w.held → written.faults ≡ w.sink_faults
+pub too_long : {C : Type 0} {serves rests : Telling C} (ends : MayRest serves rests) (base : Base) (start : World) (taken bytes others : List ℕ) (old new : Session C) (w : World) (left : Option (List ℕ)) (faults : ℕ) (end : Disk) (written : Written)
+    → Reading serves base start taken old w → Took (bytes ++ others) w.left left → w.source_faults ≤ faults → PlaysBytes serves rests bytes old new (Ok tt) written → written.before ≡ w.held → written.faults ≡ w.sink_faults
     → length taken + length bytes ≡ input_limit → 0 < length others
-    → Ends base start TooLong new.server (world end left faults written.after written.faults_after)
-too_long base start taken bytes others old new w left faults end written r took more plays held sink full some =
+    → EndsIn (rests new.core base) start TooLong (world end left faults written.after written.faults_after)
+too_long ends base start taken bytes others old new w left faults end written r took more plays held sink full some =
     let so = plays.ok base taken r.spoken r.standing r.all_told refl in
     let n = so.1 in
     record {
@@ -156,7 +157,7 @@ too_long base start taken bytes others old new w left faults end written r took 
         n.rest,
         subst (λ (l : List ℕ). Splits l n.lines n.rest) (sym (take_at (taken ++ bytes) others input_limit (omega (arith, full, length-append taken bytes)))) n.splits,
       );
-      halts = halts_of base n.lines n.replies new.server end n.serving;
+      halts = ends new.core base n.lines n.replies n.serving;
       told = subst (λ (l : List ℕ). Put l start.held written.after) (sym (n.texts ∙ ap (λ (l : List ℕ). (r.spoken ++ so.0) ++ l) so.2 ∙ append-nil (r.spoken ++ so.0)))
           (puts_more r.spoken so.0 start.held w.held written.after r.put (subst (λ (h : Option (List ℕ)). Put so.0 h written.after) held so.3));
       reason = tt;
@@ -164,17 +165,17 @@ too_long base start taken bytes others old new w left faults end written r took 
     }
 
 -- the piece's two answers
-pub piece_err : (room : ℕ) (old new : Session) (e : Ending) (before after : World)
-    → ((base : Base) (start : World) (taken : List ℕ) → Reading base start taken old before → length taken + room ≡ input_limit → Ends base start e new.server after)
-    → PlaysPiece room old new (Err e) before after
-piece_err room old new e before after does = record {
+pub piece_err : {C : Type 0} {serves rests : Telling C} (room : ℕ) (old new : Session C) (e : Ending) (before after : World)
+    → ((base : Base) (start : World) (taken : List ℕ) → Reading serves base start taken old before → length taken + room ≡ input_limit → EndsIn (rests new.core base) start e after)
+    → PlaysPiece serves rests room old new (Err e) before after
+piece_err {rests = rests} room old new e before after does = record {
   ok = λ base start taken r size n is. let no = is in cc;
-  err = λ base start taken r size ending is. subst (λ (x : Ending). Ends base start x new.server after) (let same = is in cc) (does base start taken r size);
+  err = λ base start taken r size ending is. subst (λ (x : Ending). EndsIn (rests new.core base) start x after) (let same = is in cc) (does base start taken r size);
 }
 
-pub piece_ok : (room : ℕ) (old new : Session) (n : ℕ) (bytes : List ℕ) (before after : World) → 0 < n → n ≤ room → length bytes ≡ n
-    → ((base : Base) (start : World) (taken : List ℕ) → Reading base start taken old before → length taken + room ≡ input_limit → Reading base start (taken ++ bytes) new after)
-    → PlaysPiece room old new (Ok n) before after
+pub piece_ok : {C : Type 0} {serves rests : Telling C} (room : ℕ) (old new : Session C) (n : ℕ) (bytes : List ℕ) (before after : World) → 0 < n → n ≤ room → length bytes ≡ n
+    → ((base : Base) (start : World) (taken : List ℕ) → Reading serves base start taken old before → length taken + room ≡ input_limit → Reading serves base start (taken ++ bytes) new after)
+    → PlaysPiece serves rests room old new (Ok n) before after
 piece_ok room old new n bytes before after some fits size does = record {
   ok = λ base start taken r full m is.
       let same : n ≡ m = let e = is in cc in
@@ -198,11 +199,12 @@ up_to_limit old new played others lines short first =
     inl (subst (λ (l : List ℕ). AreFirst l lines) (sym (take-append-add played others rest) ∙ ap (λ (n : ℕ). take n (played ++ others)) size) (first_more played (take rest others) lines first))
 
 -- it broke in the middle of a piece
-pub broken_piece : (room : ℕ) (base : Base) (start : World) (taken buf : List ℕ) (n kept : ℕ) (old new : Session) (ending : Ending) (w : World) (left : Option (List ℕ)) (faults : ℕ) (end : Disk) (written : Written) → (r : Reading base start taken old w)
-    → length taken + room ≡ input_limit → kept ≤ room → kept ≤ n → Took (take n buf) w.left left → w.source_faults ≤ faults → PlaysBytes (take kept buf) old new (Err ending) w.disk end written → written.before ≡ w.held → written.faults ≡ w.sink_faults
-    → Ends base start ending new.server (world end left faults written.after written.faults_after)
-broken_piece room base start taken buf n kept old new ending w left faults end written r full fits le took more plays held sink =
-    broken_ends base start taken (played ++ others) played old new ending w left faults end written r
+pub broken_piece : {C : Type 0} {serves rests : Telling C} (room : ℕ) (base : Base) (start : World) (taken buf : List ℕ) (n kept : ℕ) (old new : Session C) (ending : Ending) (w : World) (left : Option (List ℕ)) (faults : ℕ) (end : Disk) (written : Written)
+    → (r : Reading serves base start taken old w) → length taken + room ≡ input_limit → kept ≤ room → kept ≤ n → Took (take n buf) w.left left → w.source_faults ≤ faults → PlaysBytes serves rests (take kept buf) old new (Err ending) written
+    → written.before ≡ w.held → written.faults ≡ w.sink_faults
+    → EndsIn (rests new.core base) start ending (world end left faults written.after written.faults_after)
+broken_piece {rests = rests} room base start taken buf n kept old new ending w left faults end written r full fits le took more plays held sink =
+    broken_ends (rests new.core base) base start taken (played ++ others) played old ending w left faults end written r
     (subst (λ (l : List ℕ). Took l start.left left) (ap (λ (l : List ℕ). taken ++ l) (first_bytes buf n kept le) ∙ sym (append_assoc taken (take kept buf) others)) (took_more taken (take n buf) start.left w.left left r.took took))
     more (plays.err base taken r.spoken r.standing r.all_told ending refl)
     (λ lines first. up_to_limit start.left left played others lines (omega (arith, full, fits, length-append taken (take kept buf), length-take kept buf)) first) held sink plays.no_fewer
@@ -214,31 +216,32 @@ broken_piece room base start taken buf n kept old new ending w left faults end w
     others = drop kept (take n buf)
 
 -- it broke at the open line
-pub broken_close : (room : ℕ) (base : Base) (start : World) (taken : List ℕ) (old new : Session) (ending : Ending) (w : World) (left : Option (List ℕ)) (faults : ℕ) (end : Disk) (written : Written) → (r : Reading base start taken old w)
-    → length taken + room ≡ input_limit → Took [] w.left left → w.source_faults ≤ faults → ((xs : List ℕ) → w.left ≡ Some xs → xs ≡ []) → Closes old new (Err ending) w.disk end written → written.before ≡ w.held → written.faults ≡ w.sink_faults
-    → Ends base start ending new.server (world end left faults written.after written.faults_after)
-broken_close room base start taken old new ending w left faults end written r full took more none closes held sink =
+pub broken_close : {C : Type 0} {serves rests : Telling C} (room : ℕ) (base : Base) (start : World) (taken : List ℕ) (old new : Session C) (ending : Ending) (w : World) (left : Option (List ℕ)) (faults : ℕ) (end : Disk) (written : Written)
+    → (r : Reading serves base start taken old w) → length taken + room ≡ input_limit → Took [] w.left left → w.source_faults ≤ faults → ((xs : List ℕ) → w.left ≡ Some xs → xs ≡ []) → Closes serves rests old new (Err ending) written
+    → written.before ≡ w.held → written.faults ≡ w.sink_faults
+    → EndsIn (rests new.core base) start ending (world end left faults written.after written.faults_after)
+broken_close {rests = rests} room base start taken old new ending w left faults end written r full took more none closes held sink =
     let s = r.standing in
-    broken_ends base start taken taken (taken ++ closing s.rest) old new ending w left faults end written r
+    broken_ends (rests new.core base) base start taken taken (taken ++ closing s.rest) old ending w left faults end written r
     (subst (λ (l : List ℕ). Took l start.left left) (append-nil taken) (took_more taken [] start.left w.left left r.took took))
     more (closes.err base taken r.spoken s r.all_told ending refl)
     (λ lines first. inr (at_end base start taken old w left r took none, omega (arith, full), record { ended = s.lines; rest = s.rest; splits = s.splits; first = first })) held sink closes.no_fewer
 
 -- the input is too long, in a piece
-pub long_piece : (base : Base) (start : World) (taken buf : List ℕ) (n kept room : ℕ) (old new : Session) (w : World) (left : Option (List ℕ)) (faults : ℕ) (end : Disk) (written : Written) → Reading base start taken old w
-    → kept < n → kept ≡ min n room → n ≤ length buf → Took (take n buf) w.left left → w.source_faults ≤ faults → PlaysBytes (take kept buf) old new (Ok tt) w.disk end written → written.before ≡ w.held → written.faults ≡ w.sink_faults
-    → length taken + room ≡ input_limit
-    → Ends base start TooLong new.server (world end left faults written.after written.faults_after)
-long_piece base start taken buf n kept room old new w left faults end written r lt is fits took more plays held sink full =
+pub long_piece : {C : Type 0} {serves rests : Telling C} (ends : MayRest serves rests) (base : Base) (start : World) (taken buf : List ℕ) (n kept room : ℕ) (old new : Session C) (w : World) (left : Option (List ℕ)) (faults : ℕ) (end : Disk) (written : Written)
+    → Reading serves base start taken old w → kept < n → kept ≡ min n room → n ≤ length buf → Took (take n buf) w.left left → w.source_faults ≤ faults → PlaysBytes serves rests (take kept buf) old new (Ok tt) written
+    → written.before ≡ w.held → written.faults ≡ w.sink_faults → length taken + room ≡ input_limit
+    → EndsIn (rests new.core base) start TooLong (world end left faults written.after written.faults_after)
+long_piece ends base start taken buf n kept room old new w left faults end written r lt is fits took more plays held sink full =
     let all = length-take-le n buf fits in
     let front = length-take-le kept buf (omega (arith, lt, fits)) in
-    too_long base start taken (take kept buf) (drop kept (take n buf)) old new w left faults end written r
+    too_long ends base start taken (take kept buf) (drop kept (take n buf)) old new w left faults end written r
     (subst (λ (l : List ℕ). Took l w.left left) (first_bytes buf n kept (omega (arith, lt))) took) more plays held sink
     (omega (arith, full, is, lt, front)) (omega (arith, lt, all, front, ap length (first_bytes buf n kept (omega (arith, lt))), length-append (take kept buf) (drop kept (take n buf))))
 
 -- the piece was played whole
-pub reads_piece : (base : Base) (start : World) (taken buf : List ℕ) (n kept : ℕ) (old new : Session) (w : World) (left : Option (List ℕ)) (faults : ℕ) (end : Disk) (written : Written) → Reading base start taken old w
-    → kept ≡ n → Took (take n buf) w.left left → w.source_faults ≤ faults → PlaysBytes (take kept buf) old new (Ok tt) w.disk end written → written.before ≡ w.held → written.faults ≡ w.sink_faults
-    → Reading base start (taken ++ take n buf) new (world end left faults written.after written.faults_after)
-reads_piece base start taken buf n kept old new w left faults end written r same took more plays held sink =
-    reads_on base start taken (take n buf) old new w left faults end written r took more (subst (λ (k : ℕ). PlaysBytes (take k buf) old new (Ok tt) w.disk end written) same plays) held sink
+pub reads_piece : {C : Type 0} {serves rests : Telling C} (base : Base) (start : World) (taken buf : List ℕ) (n kept : ℕ) (old new : Session C) (w : World) (left : Option (List ℕ)) (faults : ℕ) (end : Disk) (written : Written) → Reading serves base start taken old w
+    → kept ≡ n → Took (take n buf) w.left left → w.source_faults ≤ faults → PlaysBytes serves rests (take kept buf) old new (Ok tt) written → written.before ≡ w.held → written.faults ≡ w.sink_faults
+    → Reading serves base start (taken ++ take n buf) new (world end left faults written.after written.faults_after)
+reads_piece {serves = serves} {rests = rests} base start taken buf n kept old new w left faults end written r same took more plays held sink =
+    reads_on base start taken (take n buf) old new w left faults end written r took more (subst (λ (k : ℕ). PlaysBytes serves rests (take k buf) old new (Ok tt) written) same plays) held sink

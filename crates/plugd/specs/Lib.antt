@@ -11,6 +11,7 @@ pub mod XidSet
 pub mod LogOne
 pub mod Commit
 pub mod Serve
+pub mod Coordinator
 pub mod Session
 pub mod Piece
 pub mod Run

@@ -1,5 +1,5 @@
 -- How a whole run ends. (This project.)
-use Rattle.std.specs.Prelude.{◌≡◌, ◌≢◌, ◌⊎◌, ◌≤◌, ℕ, Bool, true, false, List, [], ◌∷◌, length, map, codes, Some, None, Result, Ok, Err, IsTrue}
+use Rattle.std.specs.Prelude.{◌≡◌, ◌≢◌, ◌⊎◌, ◌≤◌, ℕ, Bool, true, false, List, [], ◌∷◌, length, map, codes, Some, None, IsTrue}
 use Rattle.std.specs.declared.string.String.{String}
 use Rattle.std.specs.Prelude.{string_bytes}
 use Rattle.std.specs.declared.alloc.Global.{Global}
@@ -15,10 +15,10 @@ use Rattle.plugd.specs.declared.play.Ending.TheVariants.{EndOfInput, SourceFaile
 use Rattle.plugd.specs.declared.run.Status.{Status}
 use Rattle.plugd.specs.declared.run.Status.TheVariants as status
 use Rattle.plugd.specs.declared.server.Server.{Server}
-use Rattle.plugd.specs.declared.session.Session.{Session}
-use Rattle.plugd.specs.Serve.{Base, Serving}
+use Rattle.plugd.specs.declared.reply.Reply.{Reply}
+use Rattle.plugd.specs.Serve.{Base, Halts}
 use Rattle.plugd.specs.Crash.{IsRecoverableVolume}
-use Rattle.plugd.specs.Session.{input_limit, World, world, Ends}
+use Rattle.plugd.specs.Session.{input_limit, World, world, EndsIn}
 
 -- the one word of a run
 abbrev pub IsPlay : List (String Global) → Type 0
@@ -62,11 +62,13 @@ pub record IsBase (limit : ℕ) (disk : Disk) (base : Base) : Type 0 where
   pub met : base.first.met ≡ None
   pub found : IsTrue disk.told → IsLogged (contents disk 0) base.found × (base.first.count ≡ length base.found) × (base.first.len ≡ log_end base.found)
 
--- a session begins, or the opening was refused
-pub record Begins (limit : ℕ) (result : Result Session BinlogFault) (start end : Disk) : Type 0 where
-  pub ok : (session : Session) → result ≡ Ok session → (base : Base) × IsBase limit start base × Serving base [] [] session.server end
-      × (session.front.items ≡ []) × (session.replies.items ≡ [])
-  pub err : (refusal : BinlogFault) → result ≡ Err refusal → Refused start refusal end
+-- what was opened serves from what the opening found, and has played nothing
+abbrev pub Begins : ℕ → Disk → (Base → List (List ℕ) → List Reply → Type 0) → Type 0
+Begins limit disk serves = (base : Base) × IsBase limit disk base × serves base [] []
+
+-- the end of the input, or of what could be played of it, and where it leaves the server
+abbrev pub Ends : Base → World → Ending → Server → World → Type 0
+Ends base start ending server end = EndsIn (λ lines replies. Halts base lines replies server end.disk) start ending end
 
 -- the ways in which a run ends
 pub data Ended (limit : ℕ) (words : List (String Global)) (start : World) (answer : Status) (acks : List Ack) (end : World) : Type 0 where

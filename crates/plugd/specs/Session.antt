@@ -4,14 +4,14 @@ use Rattle.std.specs.declared.alloc.AllocError.{AllocError}
 use Rattle.fault_counts.specs.Rose.{Rose}
 use Rattle.disk_model.specs.Disk.{Disk}
 use Rattle.outer_io.specs.Ends.{Took, Put, PutFront}
-use Rattle.plugd.specs.declared.server.Server.{Server}
 use Rattle.plugd.specs.declared.play.Ending.{Ending}
 use Rattle.plugd.specs.declared.play.Ending.TheVariants.{EndOfInput, SourceFailed, SinkFailed, TooLong, OutOfMemory}
 use Rattle.plugd.specs.declared.reply.Reply.{Reply}
 use Rattle.plugd.specs.declared.session.Session.{Session}
 use Rattle.plugd.specs.Lines.{Splits, AreAll, AreFirst, AreFirstOfAll}
 use Rattle.plugd.specs.Reply.{text_of}
-use Rattle.plugd.specs.Serve.{Base, Serving, Halts}
+use Rattle.plugd.specs.Coordinator.{Telling}
+use Rattle.plugd.specs.Serve.{Base}
 
 -- the longest input, in bytes
 abbrev pub input_limit : ℕ
@@ -19,32 +19,32 @@ input_limit = 16777216
 
 -- Each whole line of what was taken was played, the first bytes of the open one are kept, and the texts of the replies are what was
 -- spoken and what is still to be.
-pub record Standing (base : Base) (taken spoken : List ℕ) (session : Session) (disk : Disk) : Type 0 where
+pub record Standing {C : Type 0} (serves : Telling C) (base : Base) (taken spoken : List ℕ) (session : Session C) : Type 0 where
   pub lines : List (List ℕ)
   pub rest : List ℕ
   pub replies : List Reply
   pub splits : Splits taken lines rest
   pub front : session.front.items ≡ take 64 rest
-  pub serving : Serving base lines replies session.server disk
+  pub serving : serves session.core base lines replies
   pub texts : flat_map text_of replies ≡ spoken ++ session.replies.items
 
 -- There was no memory to go on: first lines of what was taken were played, and the first texts are there.
-pub record Starved (base : Base) (taken spoken : List ℕ) (session : Session) (disk : Disk) : Type 0 where
+pub record Starved {C : Type 0} (rests : Telling C) (base : Base) (taken spoken : List ℕ) (session : Session C) : Type 0 where
   pub lines : List (List ℕ)
   pub replies : List Reply
   pub first : AreFirst taken lines
-  pub halts : Halts base lines replies session.server disk
+  pub halts : rests session.core base lines replies
   pub untold : List ℕ
   pub texts : flat_map text_of replies ≡ (spoken ++ session.replies.items) ++ untold
 
 -- it stands after some bytes, and there is room for so many more
-abbrev pub IsStanding : Session → Disk → ℕ → Type 0
-IsStanding session disk room = (base : Base) × (taken : List ℕ) × (spoken : List ℕ) × Standing base taken spoken session disk × (length taken + room < 4294967296)
+abbrev pub IsStanding : {C : Type 0} → Telling C → Session C → ℕ → Type 0
+IsStanding serves session room = (base : Base) × (taken : List ℕ) × (spoken : List ℕ) × Standing serves base taken spoken session × (length taken + room < 4294967296)
 
 -- it took these bytes
-pub record Takes (bytes : List ℕ) (old new : Session) (result : Result Unit AllocError) (start end : Disk) : Type 0 where
-  pub ok : (base : Base) (taken spoken : List ℕ) → Standing base taken spoken old start → OnOk result (Standing base (taken ++ bytes) spoken new end)
-  pub err : (base : Base) (taken spoken : List ℕ) → Standing base taken spoken old start → OnErr result (Starved base (taken ++ bytes) spoken new end)
+pub record Takes {C : Type 0} (serves rests : Telling C) (bytes : List ℕ) (old new : Session C) (result : Result Unit AllocError) : Type 0 where
+  pub ok : (base : Base) (taken spoken : List ℕ) → Standing serves base taken spoken old → OnOk result (Standing serves base (taken ++ bytes) spoken new)
+  pub err : (base : Base) (taken spoken : List ℕ) → Standing serves base taken spoken old → OnErr result (Starved rests base (taken ++ bytes) spoken new)
 
 -- the outside: the disk, what is left to read and what was written, where that is told, and the counts of faults
 pub record World : Type 0 where
@@ -64,9 +64,9 @@ pub record FaultsGoOn (old new : World) : Type 0 where
   pub sink : old.sink_faults ≤ new.sink_faults
 
 -- a session that has read these bytes since the start, played them and written all replies
-pub record Reading (base : Base) (start : World) (taken : List ℕ) (session : Session) (now : World) : Type 0 where
+pub record Reading {C : Type 0} (serves : Telling C) (base : Base) (start : World) (taken : List ℕ) (session : Session C) (now : World) : Type 0 where
   pub spoken : List ℕ
-  pub standing : Standing base taken spoken session now.disk
+  pub standing : Standing serves base taken spoken session
   pub all_told : session.replies.items ≡ []
   pub took : Took taken start.left now.left
   pub put : Put spoken start.held now.held
@@ -104,22 +104,22 @@ HasReason SinkFailed old new = Rose old.sink_faults new.sink_faults
 HasReason TooLong old new = Unit {0}
 HasReason OutOfMemory old new = Unit {0}
 
--- the end of the input, or of what could be played of it
-pub record Ends (base : Base) (start : World) (ending : Ending) (server : Server) (end : World) : Type 0 where
+-- the end of the input, or of what could be played of it, with P of the lines that were played and of their replies
+pub record EndsIn (P : List (List ℕ) → List Reply → Type 0) (start : World) (ending : Ending) (end : World) : Type 0 where
   pub read : List ℕ
   pub lines : List (List ℕ)
   pub replies : List Reply
   pub took : Took read start.left end.left
   pub played : Played ending start.left end.left read lines
-  pub halts : Halts base lines replies server end.disk
+  pub halts : P lines replies
   pub told : Told ending (flat_map text_of replies) start.held end.held
   pub reason : HasReason ending start end
   pub faults : FaultsGoOn start end
 
 -- it reads on, and the input may have so many bytes more
-abbrev pub IsReading : Session → World → ℕ → Type 0
-IsReading session now room = (base : Base) × (start : World) × (taken : List ℕ) × Reading base start taken session now × (length taken + room ≡ input_limit)
+abbrev pub IsReading : {C : Type 0} → Telling C → Session C → World → ℕ → Type 0
+IsReading serves session now room = (base : Base) × (start : World) × (taken : List ℕ) × Reading serves base start taken session now × (length taken + room ≡ input_limit)
 
 -- it has read nothing yet
-abbrev pub IsFresh : Session → World → Type 0
-IsFresh session now = (base : Base) × (start : World) × Reading base start [] session now
+abbrev pub IsFresh : {C : Type 0} → Telling C → Session C → World → Type 0
+IsFresh serves session now = (base : Base) × (start : World) × Reading serves base start [] session now

@@ -7,7 +7,9 @@
 mod ack;
 mod asked;
 mod command;
+mod coordinator;
 mod dir_storage;
+mod kernel;
 mod log_one;
 mod play;
 mod reply;

@@ -2,13 +2,12 @@
 //!
 //! All replies to what was read are written before the next read, so that a client that waits for them is answered.
 ghost use Rattle.std.specs.Prelude.{◌≡◌, ◌≤◌, ◌<◌, ◌+◌, [], ℕ, List, length};
-ghost use Rattle.disk_model.specs.Disk.{Disk};
-ghost use Rattle.plugd.specs.Session.{input_limit, IsStanding, IsReading, IsFresh, Ends, World, world, Reading};
+ghost use Rattle.plugd.specs.Session.{input_limit, IsStanding, IsReading, IsFresh, EndsIn, World, world, Reading};
 ghost use Rattle.plugd.specs.Piece.{wrote, PlaysBytes, Closes, PlaysPiece, PlaysAll};
 ghost use Rattle.plugd.specs.Serve.{Base};
 
+use crate::coordinator::Coordinator;
 use crate::session::Session;
-use disk_model::Storage;
 use outer_io::{Sink, Source};
 
 /// The longest input, in bytes. (This project's own.)
@@ -33,19 +32,17 @@ pub enum Ending {
 }
 
 // Plays these bytes and writes the replies. For want of memory the replies so far are written as far as the sink takes them.
-fn play_bytes<K: Sink>(
-    session: &mut Session,
-    volume: &mut dyn Storage,
+fn play_bytes<C: Coordinator, K: Sink>(
+    session: &mut Session<C>,
     sink: &mut K,
     bytes: &[u8],
 ) -> Result<(), Ending>
-    requires { IsStanding session.old (disk volume.old) (length bytes.now) }
-    ensures { PlaysBytes bytes.now session.old session.new result (disk volume.old)
-        (disk volume.new)
+    requires { IsStanding C.serves session.old (length bytes.now) }
+    ensures { PlaysBytes C.serves C.rests bytes.now session.old session.new result
         (wrote (K.held sink.old) (K.sink_faults sink.old)
         (K.held sink.new) (K.sink_faults sink.new)) }
 {
-    if session.take_all(volume, bytes).is_err() {
+    if session.take_all(bytes).is_err() {
         let _ = session.flush(sink);
         return Err(Ending::OutOfMemory);
     }
@@ -56,39 +53,34 @@ fn play_bytes<K: Sink>(
 }
 
 // Plays the line that the input's end leaves open.
-fn close<K: Sink>(
-    session: &mut Session,
-    volume: &mut dyn Storage,
-    sink: &mut K,
-) -> Result<(), Ending>
-    requires { IsStanding session.old (disk volume.old) 2 }
-    ensures { Closes session.old session.new result (disk volume.old) (disk volume.new)
+fn close<C: Coordinator, K: Sink>(session: &mut Session<C>, sink: &mut K) -> Result<(), Ending>
+    requires { IsStanding C.serves session.old 2 }
+    ensures { Closes C.serves C.rests session.old session.new result
         (wrote (K.held sink.old) (K.sink_faults sink.old)
         (K.held sink.new) (K.sink_faults sink.new)) }
 {
     if session.front.is_empty() {
         return Ok(());
     }
-    play_bytes(session, volume, sink, b"\r\n")
+    play_bytes(session, sink, b"\r\n")
 }
 
 // Plays the next piece of an input that may have `room` bytes more, and tells how many bytes it had.
-fn play_piece<S: Source, K: Sink>(
-    session: &mut Session,
-    volume: &mut dyn Storage,
+fn play_piece<C: Coordinator, S: Source, K: Sink>(
+    session: &mut Session<C>,
     source: &mut S,
     sink: &mut K,
     buf: &mut [u8],
     room: usize,
 ) -> Result<usize, Ending>
-    requires reading { IsReading session.old
-        (world (disk volume.old) (S.left source.old) (S.source_faults source.old)
+    requires reading { IsReading C.serves session.old
+        (world (C.volume_of session.old.core) (S.left source.old) (S.source_faults source.old)
         (K.held sink.old) (K.sink_faults sink.old)) room }
     requires piece { 0 < length buf.old }
-    ensures plays { PlaysPiece room session.old session.new result
-        (world (disk volume.old) (S.left source.old) (S.source_faults source.old)
+    ensures plays { PlaysPiece C.serves C.rests room session.old session.new result
+        (world (C.volume_of session.old.core) (S.left source.old) (S.source_faults source.old)
         (K.held sink.old) (K.sink_faults sink.old))
-        (world (disk volume.new) (S.left source.new) (S.source_faults source.new)
+        (world (C.volume_of session.new.core) (S.left source.new) (S.source_faults source.new)
         (K.held sink.new) (K.sink_faults sink.new)) }
 {
     let size = buf.len().min(room + 1);
@@ -98,13 +90,13 @@ fn play_piece<S: Source, K: Sink>(
         Err(_) => return Err(Ending::SourceFailed),
     };
     if n == 0 {
-        return match close(session, volume, sink) {
+        return match close(session, sink) {
             Ok(()) => Err(Ending::EndOfInput),
             Err(ending) => Err(ending),
         };
     }
     let kept = n.min(room);
-    if let Err(ending) = play_bytes(session, volume, sink, &piece[..kept]) {
+    if let Err(ending) = play_bytes(session, sink, &piece[..kept]) {
         return Err(ending);
     }
     if kept < n {
@@ -114,26 +106,25 @@ fn play_piece<S: Source, K: Sink>(
 }
 
 // Plays the whole input.
-pub(crate) fn play_all<S: Source, K: Sink>(
-    session: &mut Session,
-    volume: &mut dyn Storage,
+pub(crate) fn play_all<C: Coordinator, S: Source, K: Sink>(
+    session: &mut Session<C>,
     source: &mut S,
     sink: &mut K,
     buf: &mut [u8],
 ) -> Ending
-    requires reading { IsFresh session.old
-        (world (disk volume.old) (S.left source.old) (S.source_faults source.old)
+    requires reading { IsFresh C.serves session.old
+        (world (C.volume_of session.old.core) (S.left source.old) (S.source_faults source.old)
         (K.held sink.old) (K.sink_faults sink.old)) }
     requires piece { 0 < length buf.old }
-    ensures plays { PlaysAll session.old session.new result
-        (world (disk volume.old) (S.left source.old) (S.source_faults source.old)
+    ensures plays { PlaysAll C.serves C.rests session.old session.new result
+        (world (C.volume_of session.old.core) (S.left source.old) (S.source_faults source.old)
         (K.held sink.old) (K.sink_faults sink.old))
-        (world (disk volume.new) (S.left source.new) (S.source_faults source.new)
+        (world (C.volume_of session.new.core) (S.left source.new) (S.source_faults source.new)
         (K.held sink.new) (K.sink_faults sink.new)) }
 {
     let mut room = INPUT_LIMIT;
     loop {
-        match play_piece(session, volume, source, sink, buf, room) {
+        match play_piece(session, source, sink, buf, room) {
             Ok(n) => room -= n,
             Err(ending) => return ending,
         }

@@ -4,18 +4,17 @@ ghost use Rattle.disk_model.specs.Disk.{Disk};
 ghost use Rattle.disk_model.specs.Object.{object};
 ghost use Rattle.plugd.specs.Crash.{StaysRecoverable};
 ghost use Rattle.plugd.specs.Session.{world};
-ghost use Rattle.plugd.specs.Run.{Ended, IsComplete, IsPlay, IsStatus, Begins, fault_status};
+ghost use Rattle.plugd.specs.Run.{Ended, IsComplete, IsPlay, IsStatus, fault_status};
 
 use crate::ack::Ack;
+use crate::coordinator::Coordinator;
+use crate::kernel::Kernel;
 use crate::play::{Ending, PIECE, play_all};
-use crate::server::Server;
 use crate::session::Session;
-use crate::xids::XidSet;
-use binlog_file::{Binlog, BinlogFault};
+use binlog_file::BinlogFault;
 use disk_model::{Storage, Volume};
 use outer_io::{Sink, Source};
 use std::alloc::Global;
-use std::mem;
 
 /// The longest log, in bytes. (This project's own.)
 pub const LOG_LIMIT: u32 = 2_147_483_647;
@@ -71,30 +70,6 @@ fn status_of_fault(fault: BinlogFault) -> Status
     }
 }
 
-// Opens the log for a session.
-fn open_session(alloc: Global, volume: &mut dyn Storage, limit: u32) -> Result<Session, BinlogFault>
-    requires { limit ≤ 2147483647 }
-    ensures { Begins limit result (disk volume.old) (disk volume.new) }
-{
-    let mut xids = XidSet::new(alloc);
-    let opened = Binlog::open(alloc, volume, &mut xids)?;
-    let server = Server {
-        alloc,
-        log: opened.log,
-        xids,
-        acks: Vec::new(alloc),
-        spelling: Vec::new(alloc),
-        lines: 0,
-        limit,
-        halted: false,
-    };
-    Ok(Session {
-        server,
-        front: Vec::new(alloc),
-        replies: Vec::new(alloc),
-    })
-}
-
 // Whether the words ask for a run.
 fn is_play(words: &[String]) -> bool
     ensures { IsTrue result ↔ IsPlay words.now }
@@ -105,44 +80,42 @@ fn is_play(words: &[String]) -> bool
     }
 }
 
-// The run over a volume that is lent.
+// The run over a volume whose log may get so many bytes long.
 pub(crate) fn run_over<S: Source, K: Sink>(
     alloc: Global,
     words: &[String],
     source: &mut S,
     sink: &mut K,
-    volume: &mut dyn Storage,
+    volume: Volume,
     limit: u32,
-) -> Outcome
+) -> (Outcome, Volume)
     requires { limit ≤ 2147483647 }
     ensures { Ended limit words.now
-        (world (disk volume.old) (S.left source.old) (S.source_faults source.old)
+        (world (disk (object volume.storage)) (S.left source.old) (S.source_faults source.old)
         (K.held sink.old) (K.sink_faults sink.old))
-        result.status result.acks.items
-        (world (disk volume.new) (S.left source.new) (S.source_faults source.new)
+        (result.0).status (result.0).acks.items
+        (world (disk (object (result.1).storage)) (S.left source.new) (S.source_faults source.new)
         (K.held sink.new) (K.sink_faults sink.new)) }
 {
     if !is_play(words) {
-        return Outcome {
-            status: Status::Usage { place: 0 },
-            acks: Vec::new(alloc),
-        };
+        let status = Status::Usage { place: 0 };
+        let acks = Vec::new(alloc);
+        return (Outcome { status, acks }, volume);
     }
-    let mut session = match open_session(alloc, volume, limit) {
-        Ok(session) => session,
-        Err(fault) => {
-            return Outcome {
-                status: status_of_fault(fault),
-                acks: Vec::new(alloc),
-            };
+    let kernel = match Kernel::open(alloc, volume, limit) {
+        Ok(kernel) => kernel,
+        Err(refusal) => {
+            let status = status_of_fault(refusal.fault);
+            let acks = Vec::new(alloc);
+            return (Outcome { status, acks }, refusal.volume);
         }
     };
+    let mut session = Session::new(alloc, kernel);
     let mut buf = [0; PIECE];
-    let ending = play_all(&mut session, volume, source, sink, &mut buf);
-    Outcome {
-        status: status_of(ending, session.server.halted),
-        acks: mem::replace(&mut session.server.acks, Vec::new(alloc)),
-    }
+    let ending = play_all(&mut session, source, sink, &mut buf);
+    let status = status_of(ending, session.core.halted());
+    let (volume, acks) = session.core.close();
+    (Outcome { status, acks }, volume)
 }
 
 /// Runs the server over a volume: the one word `play` opens the log in file 0 and plays the lines of the input. Each reply is written
@@ -172,7 +145,5 @@ pub fn run<S: Source, K: Sink>(
     ensures recoverable { StaysRecoverable (disk (object volume.storage))
         (disk (object (result.1).storage)) }
 {
-    let mut volume = volume;
-    let outcome = run_over(alloc, words, source, sink, &mut *volume.storage, LOG_LIMIT);
-    (outcome, volume)
+    run_over(alloc, words, source, sink, volume, LOG_LIMIT)
 }

@@ -3,7 +3,7 @@ ghost use Rattle.std.specs.Prelude.{◌≤◌};
 
 use crate::ack::Ack;
 use crate::run::{LOG_LIMIT, Outcome, Status, run_over};
-use disk_model::{Choice, Failed, FileBytes, MemoryStorage, Storage, Veiled};
+use disk_model::{Choice, Failed, FileBytes, MemoryStorage, Storage, Veiled, Volume};
 use outer_io::{MemorySink, MemorySource};
 use std::alloc::{AllocError, Global};
 use std::test::Fail;
@@ -23,31 +23,31 @@ fn words_of(alloc: Global, word: &str) -> Result<Vec<String>, AllocError> {
     Ok(words)
 }
 
-// A run over these ends: how it ended, and what it wrote.
+// A run over these ends: how it ended, what it wrote, and the volume.
 fn run_between(
     alloc: Global,
-    volume: &mut dyn Storage,
+    volume: Volume,
     source: MemorySource,
     sink: MemorySink,
     limit: u32,
-) -> Result<(Outcome, Vec<u8>), AllocError>
+) -> Result<(Outcome, Vec<u8>, Volume), AllocError>
     requires { limit ≤ 2147483647 }
 {
     let words = words_of(alloc, "play")?;
     let mut source = source;
     let mut sink = sink;
-    let outcome = run_over(alloc, &words, &mut source, &mut sink, volume, limit);
+    let (outcome, volume) = run_over(alloc, &words, &mut source, &mut sink, volume, limit);
     let replies = sink.bytes().to_vec(alloc)?;
-    Ok((outcome, replies))
+    Ok((outcome, replies, volume))
 }
 
 // A run over this input, which comes in pieces of so many bytes.
 fn played(
     alloc: Global,
-    volume: &mut dyn Storage,
+    volume: Volume,
     input: &[u8],
     piece: usize,
-) -> Result<(Outcome, Vec<u8>), AllocError> {
+) -> Result<(Outcome, Vec<u8>, Volume), AllocError> {
     let source = MemorySource::new(input.to_vec(alloc)?, piece.max(1), Vec::new(alloc));
     let sink = MemorySink::new(alloc, Vec::new(alloc));
     run_between(alloc, volume, source, sink, LOG_LIMIT)
@@ -56,14 +56,14 @@ fn played(
 #[test]
 fn inserts_are_acknowledged_by_number(rt: HostRuntime) -> Result<(), Fail> {
     let alloc = rt.alloc();
-    let mut storage = fresh(alloc, Vec::new(alloc))?;
-    let (first, replies) = played(alloc, &mut storage, TWO, 4_096)?;
+    let volume = Volume::new(Box::new(alloc, fresh(alloc, Vec::new(alloc))?)?);
+    let (first, replies, mut volume) = played(alloc, volume, TWO, 4_096)?;
     assert_eq!(rt; first.status, Status::Ok);
     assert!(rt; replies.as_slice() == b"1 ok 1 #1\n1 ok 1 #2\n".as_slice());
     let acks = [Ack { number: 1, call: 7 }, Ack { number: 2, call: 9 }];
     assert_eq!(rt; first.acks.as_slice(), acks.as_slice());
-    assert_eq!(rt; storage.len(0)?, 282);
-    let (second, more) = played(alloc, &mut storage, ONE, 4_096)?;
+    assert_eq!(rt; volume.len(0)?, 282);
+    let (second, more, _) = played(alloc, volume, ONE, 4_096)?;
     assert_eq!(rt; second.status, Status::Ok);
     assert!(rt; more.as_slice() == b"1 ok 1 #3\n".as_slice());
     Ok(())
@@ -85,8 +85,8 @@ fn lines_are_answered_in_order(rt: HostRuntime) -> Result<(), Fail> {
     ];
     for (i, (input, want)) in cases.iter().enumerate() {
         for piece in [1, 7, 4_096] {
-            let mut storage = fresh(alloc, Vec::new(alloc))?;
-            let (outcome, replies) = played(alloc, &mut storage, input, piece)?;
+            let volume = Volume::new(Box::new(alloc, fresh(alloc, Vec::new(alloc))?)?);
+            let (outcome, replies, _) = played(alloc, volume, input, piece)?;
             assert_eq!(rt; outcome.status, Status::Ok, "input {i} by {piece}");
             assert!(rt; replies.as_slice() == *want, "input {i} by {piece}");
         }
@@ -97,12 +97,12 @@ fn lines_are_answered_in_order(rt: HostRuntime) -> Result<(), Fail> {
 #[test]
 fn a_log_has_its_limit(rt: HostRuntime) -> Result<(), Fail> {
     let alloc = rt.alloc();
-    let mut storage = fresh(alloc, Vec::new(alloc))?;
+    let volume = Volume::new(Box::new(alloc, fresh(alloc, Vec::new(alloc))?)?);
     let mut input = TWO.to_vec(alloc)?;
     input.extend_from_slice(ONE)?;
     let source = MemorySource::new(input, 4_096, Vec::new(alloc));
     let sink = MemorySink::new(alloc, Vec::new(alloc));
-    let (outcome, replies) = run_between(alloc, &mut storage, source, sink, 282)?;
+    let (outcome, replies, _) = run_between(alloc, volume, source, sink, 282)?;
     assert_eq!(rt; outcome.status, Status::Ok);
     let want = b"1 ok 1 #1\n1 ok 1 #2\n1 error 9009 log spent\n".as_slice();
     assert!(rt; replies.as_slice() == want);
@@ -115,12 +115,13 @@ fn what_is_no_volume_is_left_alone(rt: HostRuntime) -> Result<(), Fail> {
     let alloc = rt.alloc();
     let bytes = [b'A'; 40].to_vec(alloc)?;
     let files = vec![in alloc; FileBytes { file: 0, bytes }]?;
-    let mut storage = MemoryStorage::new(alloc, files, Vec::new(alloc))?;
-    let (outcome, replies) = played(alloc, &mut storage, TWO, 4_096)?;
+    let storage = MemoryStorage::new(alloc, files, Vec::new(alloc))?;
+    let volume = Volume::new(Box::new(alloc, storage)?);
+    let (outcome, replies, mut volume) = played(alloc, volume, TWO, 4_096)?;
     assert_eq!(rt; outcome.status, Status::NotAVolume { file: 0 });
     assert_eq!(rt; (replies.len(), outcome.acks.len()), (0, 0));
     let mut left = [0u8; 41];
-    assert_eq!(rt; storage.read(0, 0, &mut left)?, 40);
+    assert_eq!(rt; volume.read(0, 0, &mut left)?, 40);
     assert!(rt; left.iter().take(40).all(|b| *b == b'A'));
     Ok(())
 }
@@ -130,19 +131,12 @@ fn other_words_do_nothing(rt: HostRuntime) -> Result<(), Fail> {
     let alloc = rt.alloc();
     for word in ["", "pla", "plays", "Play"] {
         let words = words_of(alloc, word)?;
-        let mut storage = fresh(alloc, Vec::new(alloc))?;
+        let volume = Volume::new(Box::new(alloc, fresh(alloc, Vec::new(alloc))?)?);
         let mut source = MemorySource::new(TWO.to_vec(alloc)?, 4_096, Vec::new(alloc));
         let mut sink = MemorySink::new(alloc, Vec::new(alloc));
-        let outcome = run_over(
-            alloc,
-            &words,
-            &mut source,
-            &mut sink,
-            &mut storage,
-            LOG_LIMIT,
-        );
+        let (outcome, volume) = run_over(alloc, &words, &mut source, &mut sink, volume, LOG_LIMIT);
         assert_eq!(rt; outcome.status, Status::Usage { place: 0 }, "{word}");
-        assert_eq!(rt; (storage.calls(), sink.bytes().len()), (0, 0), "{word}");
+        assert_eq!(rt; (volume.calls(), sink.bytes().len()), (0, 0), "{word}");
     }
     Ok(())
 }
@@ -167,8 +161,9 @@ fn a_failing_device_call_halts(rt: HostRuntime) -> Result<(), Fail> {
         (Status::Ok, whole, 2),
     ];
     for (k, (status, want, acks)) in cases.iter().enumerate() {
-        let mut storage = fresh(alloc, [k as u64].to_vec(alloc)?)?;
-        let (outcome, replies) = played(alloc, &mut storage, TWO, 4_096)?;
+        let storage = fresh(alloc, [k as u64].to_vec(alloc)?)?;
+        let volume = Volume::new(Box::new(alloc, storage)?);
+        let (outcome, replies, _) = played(alloc, volume, TWO, 4_096)?;
         assert_eq!(rt; outcome.status, *status, "call {k}");
         assert!(rt; replies.as_slice() == *want, "call {k}");
         assert_eq!(rt; outcome.acks.len(), *acks, "call {k}");
@@ -185,10 +180,10 @@ fn a_failing_end_is_told(rt: HostRuntime) -> Result<(), Fail> {
         (9, 9, Status::Ok, 2),
     ];
     for (read, write, status, acks) in cases {
-        let mut storage = fresh(alloc, Vec::new(alloc))?;
+        let volume = Volume::new(Box::new(alloc, fresh(alloc, Vec::new(alloc))?)?);
         let source = MemorySource::new(TWO.to_vec(alloc)?, 33, [read].to_vec(alloc)?);
         let sink = MemorySink::new(alloc, [write].to_vec(alloc)?);
-        let (outcome, replies) = run_between(alloc, &mut storage, source, sink, LOG_LIMIT)?;
+        let (outcome, replies, _) = run_between(alloc, volume, source, sink, LOG_LIMIT)?;
         assert_eq!(rt; outcome.status, status);
         assert_eq!(rt; outcome.acks.len(), acks, "{status:?}");
         assert!(rt;
@@ -220,8 +215,9 @@ fn next_in(
     if moment > storage.calls() {
         return Err(Fail::from(Failed));
     }
-    let mut image = storage.image(alloc, moment, choice)?;
-    let (outcome, _) = played(alloc, &mut image, ONE, 4_096)?;
+    let image = storage.image(alloc, moment, choice)?;
+    let volume = Volume::new(Box::new(alloc, image)?);
+    let (outcome, _, _) = played(alloc, volume, ONE, 4_096)?;
     match (outcome.status, outcome.acks.as_slice()) {
         (Status::Ok, [ack]) => Ok(ack.number),
         _ => Err(Fail::from(Failed)),
@@ -231,17 +227,20 @@ fn next_in(
 #[test]
 fn crash_images_have_what_was_acknowledged(rt: HostRuntime) -> Result<(), Fail> {
     let alloc = rt.alloc();
-    let mut storage = fresh(alloc, Vec::new(alloc))?;
-    let (outcome, _) = played(alloc, &mut storage, TWO, 4_096)?;
-    assert_eq!(rt; storage.calls(), 9);
+    let volume = Volume::new(Box::new(alloc, fresh(alloc, Vec::new(alloc))?)?);
+    let (outcome, _, volume) = played(alloc, volume, TWO, 4_096)?;
+    assert_eq!(rt; volume.calls(), 9);
+    let Some(storage) = volume.memory() else {
+        return Err(Fail::from(Failed));
+    };
     for moment in 0..10 {
         let known = acknowledged(&outcome.acks, moment);
-        let whole = next_in(alloc, &storage, moment, Choice::Whole)?;
+        let whole = next_in(alloc, storage, moment, Choice::Whole)?;
         assert!(rt; whole > known, "whole at {moment}");
-        let synced = next_in(alloc, &storage, moment, Choice::Synced)?;
+        let synced = next_in(alloc, storage, moment, Choice::Synced)?;
         assert!(rt; synced > known, "synced at {moment}");
         for n in 0..41 {
-            let part = next_in(alloc, &storage, moment, Choice::FirstBytes(n))?;
+            let part = next_in(alloc, storage, moment, Choice::FirstBytes(n))?;
             assert!(rt; part > known, "{n} bytes at {moment}");
         }
     }
@@ -251,8 +250,9 @@ fn crash_images_have_what_was_acknowledged(rt: HostRuntime) -> Result<(), Fail> 
 #[test]
 fn a_volume_that_tells_nothing_gives_the_same_replies(rt: HostRuntime) -> Result<(), Fail> {
     let alloc = rt.alloc();
-    let mut storage = Veiled::new(fresh(alloc, Vec::new(alloc))?);
-    let (outcome, replies) = played(alloc, &mut storage, TWO, 4_096)?;
+    let veiled = Veiled::new(fresh(alloc, Vec::new(alloc))?);
+    let volume = Volume::new(Box::new(alloc, veiled)?);
+    let (outcome, replies, _) = played(alloc, volume, TWO, 4_096)?;
     assert_eq!(rt; outcome.status, Status::Ok);
     assert!(rt; replies.as_slice() == b"1 ok 1 #1\n1 ok 1 #2\n".as_slice());
     Ok(())

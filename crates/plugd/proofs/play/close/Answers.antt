@@ -7,10 +7,10 @@ pub returns-then-is_empty : goal.returns-then-is_empty
 returns-then-is_empty g c =
     let size : vec_len c.args.session.now.front ≡ length c.args.session.now.front.items = search rules in
     let none : vec_len c.args.session.now.front ≡ 0 = search rules in
-    closed_none c.args.session.now _ _ _ (omega (arith, size, none))
+    closed_none g.met.C.Coordinator.may_rest c.args.session.now _ _ (omega (arith, size, none))
 
 pub returns : goal.returns
 returns g c =
     let size : vec_len c.args.session.now.front ≡ length c.args.session.now.front.items = search rules in
     let some : vec_len c.args.session.now.front ≢ 0 = search rules in
-    closed c.args.session.now c.play_bytes.new.session c.play_bytes.result _ _ _ (omega (arith, size, some)) c.play_bytes.ensures
+    closed g.met.C.Coordinator.may_rest c.args.session.now c.play_bytes.new.session c.play_bytes.result _ (omega (arith, size, some)) c.play_bytes.ensures

@@ -5,9 +5,10 @@ use Rattle.plugd.proofs.play.play_all.Given as goal
 
 abbrev pub invariant-loop-n : goal.invariant-loop-n
 invariant-loop-n g l =
-    let before : World = world ((goal.Storage-dyn g l.fn.volume.now).disk l.fn.volume.now.1) (g.S.Source.left l.fn.source) (g.S.Source.source_faults l.fn.source) (g.K.Sink.held l.fn.sink) (g.K.Sink.sink_faults l.fn.sink) in
-    let now : World = world ((goal.Storage-dyn g l.volume.now).disk l.volume.now.1) (g.S.Source.left l.source) (g.S.Source.source_faults l.source) (g.K.Sink.held l.sink) (g.K.Sink.sink_faults l.sink) in
-    ((base : Base) (start : World) → Reading base start [] l.fn.session before → (taken : List ℕ) × (length taken + l.room ≡ input_limit) × Reading base start taken l.session now)
+    let serves = g.C.Coordinator.serves in
+    let before : World = world (g.C.Coordinator.volume_of l.fn.session.core) (g.S.Source.left l.fn.source) (g.S.Source.source_faults l.fn.source) (g.K.Sink.held l.fn.sink) (g.K.Sink.sink_faults l.fn.sink) in
+    let now : World = world (g.C.Coordinator.volume_of l.session.core) (g.S.Source.left l.source) (g.S.Source.source_faults l.source) (g.K.Sink.held l.sink) (g.K.Sink.sink_faults l.sink) in
+    ((base : Base) (start : World) → Reading serves base start [] l.fn.session before → (taken : List ℕ) × (length taken + l.room ≡ input_limit) × Reading serves base start taken l.session now)
     × (0 < length l.buf)
 
 abbrev pub decreases-loop-n : goal.decreases-loop-n

@@ -6,7 +6,7 @@ use Rattle.plugd.proofs.play.play_piece.Goals as goal
 pub returns-in-Err : goal.returns-in-Err
 returns-in-Err g c = record {
   plays = piece_err c.args.room c.args.session.now c.args.session.now _ _ _ (λ base start taken r full.
-      source_failed c.args.room base start taken c.args.session.now _ _ _ r full c.in-Err.ensures.failed (c.in-Err.ensures.counts.cause refl) c.in-Err.ensures.counts.no_fewer);
+      source_failed g.met.C.Coordinator.may_rest c.args.room base start taken c.args.session.now _ _ _ r full c.in-Err.ensures.failed (c.in-Err.ensures.counts.cause refl) c.in-Err.ensures.counts.no_fewer);
 }
 
 pub returns-in-Ok-close : goal.returns-in-Ok-close
@@ -46,7 +46,7 @@ returns-then-kept-n g c =
     let fits : c.in-Ok.n ≤ length c.read.new.buf = omega (arith, c.in-Ok.ensures.count, c.read.auto.buf) in
     record {
       plays = piece_err c.args.room _ _ _ _ _ (λ base start taken r full.
-          long_piece base start taken c.read.new.buf c.in-Ok.n c.min-kept.result c.args.room _ _ _ _ _ _ _ r c.if-kept-n.true c.min-kept.ensures fits c.in-Ok.ensures.took c.in-Ok.ensures.counts.no_fewer
+          long_piece g.met.C.Coordinator.may_rest base start taken c.read.new.buf c.in-Ok.n c.min-kept.result c.args.room _ _ _ _ _ _ _ r c.if-kept-n.true c.min-kept.ensures fits c.in-Ok.ensures.took c.in-Ok.ensures.counts.no_fewer
           c.in_default.ensures refl refl full);
     }
 

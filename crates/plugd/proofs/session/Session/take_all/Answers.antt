@@ -18,5 +18,5 @@ pub returns-in_err-take : goal.returns-in_err-take
 returns-in_err-take g c =
     let i = c.loop-byte.byte-index in
     let bytes = c.args.bytes.now in
-    takes_err bytes c.args.self.now _ _ _ _ (search rules) (λ base taken spoken s.
-    starved_within base taken bytes spoken i _ _ _ (omega (arith, c.loop-byte-test.true)) refl (c.in_err-take.ensures.err base (taken ++ take i bytes) spoken (c.loop-byte.invariant base taken spoken s)))
+    takes_err bytes c.args.self.now _ _ (search rules) (λ base taken spoken s.
+    starved_within base taken bytes spoken i _ _ (omega (arith, c.loop-byte-test.true)) refl (c.in_err-take.ensures.err base (taken ++ take i bytes) spoken (c.loop-byte.invariant base taken spoken s)))
