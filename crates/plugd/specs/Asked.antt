@@ -3,7 +3,6 @@ use Rattle.std.specs.Prelude.{◌≡◌, ℕ, ℤ, List, [], ◌∷◌, Option, 
 use Rattle.sql_value.specs.declared.value.Value.TheVariants.{Int, Text}
 use Rattle.row_format.specs.declared.schema.Kind.TheVariants.{BigInt, VarChar}
 use Rattle.row_format.specs.declared.schema.Column.{Column}
-use Rattle.row_format.specs.declared.schema.Schema.{Schema}
 use Rattle.row_format.specs.declared.change.TableMap.{TableMap}
 use Rattle.row_format.specs.declared.change.Change.{Change}
 use Rattle.row_format.specs.declared.change.Change.TheVariants as change
