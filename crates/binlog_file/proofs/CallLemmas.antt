@@ -19,8 +19,8 @@ use Rattle.frame_codec.proofs.ChainLemmas.{chain_of-nil, chain_of-append, end_of
 use Rattle.framed_file.specs.Framed.{IsPrefix, header_len}
 use Rattle.framed_file.proofs.PrefixLemmas.{prefix_refl, prefix_trans}
 use Rattle.binlog_file.specs.declared.binlog.Binlog.{Binlog}
-use Rattle.binlog_file.specs.declared.transaction.Transaction.{Transaction}
-use Rattle.binlog_file.specs.Transaction.{begin, table_map, row_event, xid_event, events_of}
+use Rattle.row_format.specs.declared.change.Transaction.{Transaction}
+use Rattle.binlog_events.specs.Transaction.{begin, table_map, row_event, xid_event, events_of}
 use Rattle.binlog_file.specs.Logged.{header_checksum, log_header, all_events, log_end, log_checksum, log_of, Holds}
 use Rattle.binlog_file.specs.Binlog.{IsLog, IsOpen, Carries}
 use Rattle.binlog_file.specs.Tail.{tail_checksum}

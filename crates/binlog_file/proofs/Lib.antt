@@ -1,7 +1,3 @@
-pub mod TransactionLemmas
-pub mod ReadingLemmas
-pub mod RowLemmas
-pub mod WritingLemmas
 pub mod UniqueLemmas
 pub mod PlainLemmas
 pub mod LoggedLemmas
@@ -9,4 +5,3 @@ pub mod CallLemmas
 pub mod WalkLemmas
 pub mod StagedLemmas
 pub mod OpenLemmas
-pub mod EventsLemmas

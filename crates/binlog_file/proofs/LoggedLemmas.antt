@@ -12,10 +12,10 @@ use Rattle.frame_codec.proofs.ChainLemmas.{chain_of-append, end_of-append, last_
 use Rattle.framed_file.specs.Framed.{IsPrefix, header_len, framed, HoldsFrames}
 use Rattle.framed_file.proofs.PrefixLemmas.{prefix_nil, prefixes_meet}
 use Rattle.framed_file.proofs.HeldLemmas.{frames_held}
-use Rattle.binlog_file.specs.declared.transaction.Transaction.{Transaction}
-use Rattle.binlog_file.specs.Transaction.{events_of, IsFit, IsTransactionAt}
+use Rattle.row_format.specs.declared.change.Transaction.{Transaction}
+use Rattle.binlog_events.specs.Transaction.{events_of, IsFit, IsTransactionAt}
 use Rattle.binlog_file.specs.Logged.{header_checksum, log_header, IsLogHeader, header_fields, all_events, log_end, log_checksum, log_of, AreFit, IsBetween, Holds}
-use Rattle.binlog_file.proofs.TransactionLemmas.{one_transaction}
+use Rattle.binlog_events.proofs.TransactionLemmas.{one_transaction}
 
 pub all_events-append : (xs ys : List Transaction) → all_events (xs ++ ys) ≡ all_events xs ++ all_events ys
 all_events-append [] ys = refl

@@ -19,13 +19,13 @@ use Rattle.framed_file.specs.Framed.{IsPrefix, header_len}
 use Rattle.framed_file.proofs.PrefixLemmas.{prefix_refl, starts_or_not}
 use Rattle.binlog_file.specs.declared.binlog.Binlog.{Binlog}
 use Rattle.binlog_file.specs.declared.scan.Scan.{Scan}
-use Rattle.binlog_file.specs.declared.transaction.Transaction.{Transaction}
-use Rattle.binlog_file.specs.Transaction.{events_of}
+use Rattle.row_format.specs.declared.change.Transaction.{Transaction}
+use Rattle.binlog_events.specs.Transaction.{events_of}
 use Rattle.binlog_file.specs.Logged.{header_checksum, log_header, all_events, log_end, log_checksum, log_of, Headed, Headless, IsLogged, IsNoLog, Holds}
 use Rattle.binlog_file.specs.Binlog.{IsLog}
-use Rattle.binlog_file.specs.Found.{NoTransactionAt}
+use Rattle.binlog_events.specs.Found.{NoTransactionAt}
 use Rattle.binlog_file.specs.Opening.{Reached, Walked, IsSafe, OpensFor}
-use Rattle.binlog_file.proofs.TransactionLemmas.{length-events_of}
+use Rattle.binlog_events.proofs.TransactionLemmas.{length-events_of}
 use Rattle.binlog_file.proofs.LoggedLemmas.{length-log_header}
 use Rattle.binlog_file.proofs.CallLemmas.{length-log_of}
 

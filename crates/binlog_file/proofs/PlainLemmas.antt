@@ -9,11 +9,11 @@ use Rattle.frame_codec.specs.Frame.{Event, limit}
 use Rattle.frame_codec.specs.Chain.{chain_of, end_of, last_checksum}
 use Rattle.frame_codec.proofs.ChainLemmas.{chain_of-nil, length-chain_of}
 use Rattle.framed_file.specs.Framed.{IsPrefix, header_len}
-use Rattle.binlog_file.specs.declared.read.Found.{Found}
-use Rattle.binlog_file.specs.declared.transaction.Transaction.{Transaction}
-use Rattle.binlog_file.specs.Transaction.{events_of}
+use Rattle.binlog_events.specs.declared.events.Found.{Found}
+use Rattle.row_format.specs.declared.change.Transaction.{Transaction}
+use Rattle.binlog_events.specs.Transaction.{events_of}
 use Rattle.binlog_file.specs.Logged.{header_checksum, log_header, all_events, log_end, log_checksum, log_of, AreFit, Headed}
-use Rattle.binlog_file.specs.Found.{Finds, NoTransactionAt}
+use Rattle.binlog_events.specs.Found.{Finds, NoTransactionAt}
 use Rattle.binlog_file.proofs.LoggedLemmas.{length-log_header, log_header_is, header_bytes, all_events_one, AreFit-append}
 use Rattle.binlog_file.proofs.CallLemmas.{log_of-append, log_end-append, log_checksum-append}
 

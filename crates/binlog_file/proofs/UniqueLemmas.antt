@@ -6,11 +6,11 @@ use Rattle.frame_codec.specs.Chain.{chain_of, end_of, last_checksum, EndsWithin}
 use Rattle.frame_codec.proofs.FrameLemmas.{one_event}
 use Rattle.frame_codec.proofs.ChainLemmas.{chain_of-nil, chain_of-cons, chain_of-append, end_of-append, last_checksum-append, end_of-le}
 use Rattle.framed_file.specs.Framed.{header_len}
-use Rattle.binlog_file.specs.declared.transaction.Transaction.{Transaction}
-use Rattle.binlog_file.specs.Transaction.{events_of}
-use Rattle.binlog_file.specs.Found.{NoTransactionAt}
+use Rattle.row_format.specs.declared.change.Transaction.{Transaction}
+use Rattle.binlog_events.specs.Transaction.{events_of}
+use Rattle.binlog_events.specs.Found.{NoTransactionAt}
 use Rattle.binlog_file.specs.Logged.{header_checksum, log_header, all_events, AreFit, Headed, IsLogged}
-use Rattle.binlog_file.proofs.TransactionLemmas.{one_transaction}
+use Rattle.binlog_events.proofs.TransactionLemmas.{one_transaction}
 
 -- two chains of as many frames at one place are of the same events
 same_chain : (prev at : ℕ) (es fs : List Event) (x y : List ℕ) → length es ≡ length fs → EndsWithin at es → EndsWithin at fs

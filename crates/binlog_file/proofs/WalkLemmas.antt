@@ -11,14 +11,14 @@ use Rattle.frame_codec.specs.Chain.{chain_of, end_of, last_checksum}
 use Rattle.frame_codec.proofs.ChainLemmas.{chain_of-nil, chain_of-append, length-chain_of}
 use Rattle.framed_file.specs.Framed.{IsPrefix, header_len}
 use Rattle.framed_file.proofs.PrefixLemmas.{prefixes_meet}
-use Rattle.binlog_file.specs.declared.read.Found.{Found}
+use Rattle.binlog_events.specs.declared.events.Found.{Found}
 use Rattle.binlog_file.specs.declared.scan.Scan.{Scan}
-use Rattle.binlog_file.specs.declared.transaction.Transaction.{Transaction}
-use Rattle.binlog_file.specs.Transaction.{events_of}
+use Rattle.row_format.specs.declared.change.Transaction.{Transaction}
+use Rattle.binlog_events.specs.Transaction.{events_of}
 use Rattle.binlog_file.specs.Logged.{header_checksum, log_header, all_events, log_end, log_checksum, log_of, AreFit}
-use Rattle.binlog_file.specs.Found.{Finds, NoTransactionAt}
+use Rattle.binlog_events.specs.Found.{Finds, NoTransactionAt}
 use Rattle.binlog_file.specs.Opening.{Reached, Walks, Walked}
-use Rattle.binlog_file.proofs.TransactionLemmas.{length-events_of}
+use Rattle.binlog_events.proofs.TransactionLemmas.{length-events_of}
 use Rattle.binlog_file.proofs.LoggedLemmas.{all_events-append, all_events_one, AreFit-append}
 use Rattle.binlog_file.proofs.CallLemmas.{length-log_of, log_of-append, log_end-append, log_checksum-append}
 

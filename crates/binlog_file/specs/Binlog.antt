@@ -6,7 +6,7 @@ use Rattle.disk_model.specs.Grew.{OnlyGrew}
 use Rattle.frame_codec.specs.Chain.{chain_of, EndsWithin}
 use Rattle.framed_file.specs.Framed.{header_len}
 use Rattle.binlog_file.specs.declared.binlog.Binlog.{Binlog}
-use Rattle.binlog_file.specs.declared.transaction.Transaction.{Transaction}
+use Rattle.row_format.specs.declared.change.Transaction.{Transaction}
 use Rattle.binlog_file.specs.Logged.{all_events, log_end, log_checksum, log_of, AreFit}
 
 -- how many transactions were written

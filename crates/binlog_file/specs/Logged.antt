@@ -6,8 +6,8 @@ use Rattle.frame_codec.specs.Crc.{crc_of}
 use Rattle.frame_codec.specs.Frame.{Event}
 use Rattle.frame_codec.specs.Chain.{end_of, last_checksum, EndsWithin}
 use Rattle.framed_file.specs.Framed.{IsPrefix, header_len, IsFaithful, framed}
-use Rattle.binlog_file.specs.declared.transaction.Transaction.{Transaction}
-use Rattle.binlog_file.specs.Transaction.{events_of, IsFit, IsTransactionAt}
+use Rattle.row_format.specs.declared.change.Transaction.{Transaction}
+use Rattle.binlog_events.specs.Transaction.{events_of, IsFit, IsTransactionAt}
 
 -- a header's first 28 bytes: the word, version 1, sequence 1, no transactions before this file, zero
 unfoldable pub header_fields : List ℕ

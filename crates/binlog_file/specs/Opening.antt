@@ -1,15 +1,17 @@
 -- What an opening of the log does: what it has read so far, and what it leaves. (This project.)
-use Rattle.std.specs.Prelude.{◌≡◌, ◌⊎◌, ◌+◌, ℕ, Bool, true, List, [], ◌++◌, length}
+use Rattle.std.specs.Prelude.{◌≡◌, ◌⊎◌, ◌+◌, ◌≤◌, ◌<◌, ℕ, Bool, true, false, List, [], ◌++◌, length, Option, None, IfSome}
 use Rattle.disk_model.specs.File.{File, IsSettled}
 use Rattle.disk_model.specs.Disk.{Disk, now, contents}
-use Rattle.frame_codec.specs.Chain.{chain_of, EndsWithin}
+use Rattle.frame_codec.specs.Frame.{limit}
+use Rattle.frame_codec.specs.Chain.{chain_of, end_of, EndsWithin}
 use Rattle.framed_file.specs.Framed.{header_len}
 use Rattle.binlog_file.specs.declared.binlog.Binlog.{Binlog}
 use Rattle.binlog_file.specs.declared.scan.Scan.{Scan}
-use Rattle.binlog_file.specs.declared.transaction.Transaction.{Transaction}
+use Rattle.row_format.specs.declared.change.Transaction.{Transaction}
 use Rattle.binlog_file.specs.Logged.{all_events, log_end, log_checksum, AreFit, Headed, Headless, IsLogged, Holds}
 use Rattle.binlog_file.specs.Binlog.{flushed_of, durable_of, IsLog}
-use Rattle.binlog_file.specs.Found.{NoTransactionAt}
+use Rattle.binlog_events.specs.Transaction.{events_of, IsTransactionAt}
+use Rattle.binlog_events.specs.Found.{NoTransactionAt}
 
 -- a reading has come behind these transactions
 pub record Reached (scan : Scan) (list : List Transaction) : Type 0 where
@@ -19,16 +21,39 @@ pub record Reached (scan : Scan) (list : List Transaction) : Type 0 where
   pub len : scan.len ≡ log_end list
   pub crc : scan.crc ≡ log_checksum list
 
--- Some transactions more were read at the front of a piece, and given to the visitor. Where that was the end, no other one stands
--- there, whatever follows the piece; and where it was the last piece, nothing does.
-pub record Walks (before after : List Transaction → Type 0) (list : List Transaction) (bytes : List ℕ) (scan : Scan) (is_last ended : Bool) : Type 0 where
+-- each transaction that stands here, whatever follows these bytes, has at least so many, which are more than are there
+pub record Needs (prev at : ℕ) (bytes : List ℕ) (n : ℕ) : Type 0 where
+  pub more : length bytes < n
+  pub within : at + n ≤ limit
+  pub least : (t : Transaction) (beyond : List ℕ) → IsTransactionAt prev at (bytes ++ beyond) t → at + n ≤ end_of at (events_of t)
+
+-- no transaction stands here, whatever follows these bytes
+abbrev pub NeverAt : ℕ → ℕ → List ℕ → Type 0
+NeverAt prev at bytes = (beyond : List ℕ) → NoTransactionAt prev at (bytes ++ beyond)
+
+-- so many bytes are needed to tell what stands behind these transactions; then the piece was not the last
+pub record CutOff (list : List Transaction) (rest : List ℕ) (is_last : Bool) (n : ℕ) : Type 0 where
+  pub not_last : is_last ≡ false
+  pub needs : Needs (log_checksum list) (log_end list) rest n
+
+-- Some transactions more were read at the front of a piece, and given to the visitor. Either no other one stands behind them, whatever
+-- follows the piece, which is nothing where it was the last; or so many bytes are needed there, and the reading goes on.
+pub record Walks (before after : List Transaction → Type 0) (list : List Transaction) (bytes : List ℕ) (scan : Scan) (is_last : Bool) (needs : Option ℕ) : Type 0 where
   pub more : List Transaction
   pub reached : Reached scan (list ++ more)
   pub visited : (some : List Transaction) → before some → after (some ++ more)
   pub rest : List ℕ
   pub split : bytes ≡ chain_of (log_checksum list) (log_end list) (all_events more) ++ rest
-  pub none : ended ≡ true → (beyond : List ℕ) → (is_last ≡ true → beyond ≡ [])
+  pub none : needs ≡ None → (beyond : List ℕ) → (is_last ≡ true → beyond ≡ [])
       → NoTransactionAt (log_checksum (list ++ more)) (log_end (list ++ more)) (rest ++ beyond)
+  pub goes_on : IfSome needs (CutOff (list ++ more) rest is_last)
+
+-- a piece that is not the last was read; more bytes are needed behind its transactions than it has
+pub record Further (old new : Scan) (bytes : List ℕ) (is_last : Bool) (n : ℕ) : Type 0 where
+  pub not_last : is_last ≡ false
+  pub later : old.len ≤ new.len
+  pub more : old.len + length bytes < new.len + n
+  pub within : new.len + n ≤ limit
 
 -- all logged transactions were read, and given to the visitor
 pub record Walked (before after : List Transaction → Type 0) (bytes : List ℕ) (scan : Scan) : Type 0 where

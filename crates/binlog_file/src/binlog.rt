@@ -8,7 +8,7 @@ ghost use Rattle.disk_model.specs.File.{Writes, IsSettled};
 ghost use Rattle.frame_codec.specs.Frame.{Event};
 ghost use Rattle.binlog_file.specs.Logged.{Holds};
 ghost use Rattle.binlog_file.specs.Tail.{tail_checksum};
-ghost use Rattle.binlog_file.specs.declared.transaction.Transaction.{Transaction};
+ghost use Rattle.row_format.specs.declared.change.Transaction.{Transaction};
 
 use disk_model::{Failed, Storage};
 

@@ -8,7 +8,7 @@ ghost use Rattle.fault_counts.specs.Rose.{Rose};
 ghost use Rattle.disk_model.specs.Disk.{Disk, now, contents, Keeps, Only, HasCause};
 ghost use Rattle.binlog_file.specs.Logged.{IsNoLog};
 ghost use Rattle.binlog_file.specs.Opening.{IsSafe, OpensFor};
-ghost use Rattle.binlog_file.specs.declared.transaction.Transaction.{Transaction};
+ghost use Rattle.row_format.specs.declared.change.Transaction.{Transaction};
 ghost use Rattle.binlog_file.specs.declared.fault.BinlogFault.TheVariants.{Device, NotAVolume};
 
 use crate::fault::BinlogFault;

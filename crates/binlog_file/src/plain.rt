@@ -3,9 +3,9 @@ ghost use Rattle.std.specs.Prelude.{◌≡◌, IfOk, IfSome, IfNone};
 ghost use Rattle.framed_file.specs.Framed.{IsPrefix};
 ghost use Rattle.binlog_file.specs.Logged.{log_header, Headed, IsLogged, IsNoLog};
 
-use crate::Transaction;
-use crate::read::transaction_at;
 use crate::scan::{HEADER, HEADER_CRC, HEADER_LEN};
+use binlog_events::transaction_at;
+use row_format::Transaction;
 use std::alloc::{AllocError, Global};
 
 // The transactions behind a header.

@@ -13,12 +13,6 @@ pub(crate) const HEADER: [u8; 32] = [
 /// The checksum of the header, to which the first frame is chained.
 pub(crate) const HEADER_CRC: u32 = 0x2b645976;
 
-/// How many bytes are read at a time.
-pub(crate) const CHUNK: usize = 65_536;
-
-/// No transaction has more bytes: its four frames, with a text of 10 bytes.
-pub(crate) const LONGEST: usize = 134;
-
 /// How many transactions were found, where the last one ends, and its checksum.
 #[derive(Clone, Copy, Debug, PartialEq, Eq)]
 pub(crate) struct Scan {

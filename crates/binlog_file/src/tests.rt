@@ -2,7 +2,7 @@
 ghost use Rattle.std.specs.Prelude.{◌≤◌, length, IfOk, OnOk};
 ghost use Rattle.disk_model.specs.Disk.{Disk};
 ghost use Rattle.binlog_file.specs.Binlog.{IsOpen};
-ghost use Rattle.binlog_file.specs.Transaction.{IsFit};
+ghost use Rattle.binlog_events.specs.Transaction.{IsFit};
 
 use crate::scan::{HEADER, HEADER_CRC};
 use crate::{

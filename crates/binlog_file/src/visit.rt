@@ -1,8 +1,8 @@
 //! Who is given the logged transactions at an opening, one at a time.
 ghost use Rattle.std.specs.Prelude.{◌++◌, ◌∷◌, [], List, OnOk};
-ghost use Rattle.binlog_file.specs.declared.transaction.Transaction.{Transaction as Logged};
+ghost use Rattle.row_format.specs.declared.change.Transaction.{Transaction as Logged};
 
-use crate::Transaction;
+use row_format::Transaction;
 use std::alloc::AllocError;
 
 /// A visitor of the log: it is given each logged transaction, in order. After an opening that was refused it is only dropped.

@@ -1,7 +1,7 @@
 -- Each transaction that is found is the next of the list; where none is, the list is whole.
 use Rattle.std.proofs.Common.{refl, sym, rules}
 use Rattle.std.proofs.lemmas.List.{take_rest}
-use Rattle.binlog_file.specs.Found.{Finds, NoTransactionAt}
+use Rattle.binlog_events.specs.Found.{Finds, NoTransactionAt}
 use Rattle.binlog_file.proofs.LoggedLemmas.{header_checksum_is}
 use Rattle.binlog_file.proofs.WalkLemmas.{found_fits, shorter, some_is}
 use Rattle.binlog_file.proofs.PlainLemmas.{listing_first, listing_more, listing_end, header_long, never_some}

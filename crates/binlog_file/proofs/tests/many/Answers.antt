@@ -1,6 +1,6 @@
 -- No transaction has more than 134 bytes.
 use Rattle.std.proofs.Common.{arith}
-use Rattle.binlog_file.proofs.TransactionLemmas.{length-events_of}
+use Rattle.binlog_events.proofs.TransactionLemmas.{length-events_of}
 use Rattle.binlog_file.proofs.tests.many.Goals as goal
 
 pub put_transaction-requires-clause-room : goal.put_transaction-requires-clause-room

@@ -1,7 +1,7 @@
 -- One transaction is written behind the log, and the log stays open.
 use Rattle.std.proofs.Common.{◌≡◌, ◌≤◌, [], ◌∷◌, ◌++◌, ℕ, List, refl, ◌∙◌, ap, arith}
 use Rattle.frame_codec.specs.Chain.{chain_of, end_of}
-use Rattle.binlog_file.specs.Transaction.{events_of}
+use Rattle.binlog_events.specs.Transaction.{events_of}
 use Rattle.binlog_file.proofs.WritingLemmas.{one_carried, still_open}
 use Rattle.binlog_file.proofs.tests.put.Goals as goal
 

@@ -1,6 +1,6 @@
 use Rattle.std.proofs.Common.{◌≡◌, ◌⊎◌, inl, inr, ◌≤◌, true, length, refl, rules}
 use Rattle.std.proofs.lemmas.List.{take_rest}
-use Rattle.binlog_file.specs.Found.{Finds, NoTransactionAt}
+use Rattle.binlog_events.specs.Found.{Finds, NoTransactionAt}
 use Rattle.binlog_file.proofs.WalkLemmas.{walk_first, walk_more, walk_end, found_fits, shorter, some_is, none_is}
 use Rattle.binlog_file.proofs.walk.take_whole.Goals as goal
 use Rattle.binlog_file.proofs.walk.take_whole.Goals.{then-is_last, else-is_last+then-rest-ge-LONGEST}
