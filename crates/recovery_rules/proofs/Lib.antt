@@ -1,4 +1,0 @@
-pub mod TrailsLemmas
-pub mod RecoveryLemmas
-pub mod DistinctLemmas
-pub mod Examples
