@@ -1,0 +1,4 @@
+pub mod TrailsLemmas
+pub mod RecoveryLemmas
+pub mod DistinctLemmas
+pub mod Examples
