@@ -4,10 +4,11 @@ use Rattle.disk_model.specs.File.{File, IsImage}
 use Rattle.framed_file.specs.Framed.{IsFaithful, IsPrefix}
 use Rattle.row_format.specs.declared.change.Transaction.{Transaction}
 use Rattle.binlog_file.specs.Logged.{IsLogHeader, IsLogged, IsBetween, Holds}
-use Rattle.log_tables.specs.Gists.{Gist}
+use Rattle.log_tables.specs.declared.gist.Gist.{Gist}
 use Rattle.engine_api.specs.Reads.{AreFaithful, EachReads}
 use Rattle.recovery_rules.specs.Recovery.{ShelfEngine, IsRecoverable, IsRecovered}
-use Rattle.volume_rules.specs.Images.{Reader, AreImages, StandFor, with_gists, IsRecoverableTo, IsRecoveredTo, EachRecoverable, EachRecovered}
+use Rattle.volume_rules.specs.Readers.{Reader, with_gists}
+use Rattle.volume_rules.specs.Images.{AreImages, StandFor, IsRecoverableTo, IsRecoveredTo, EachRecoverable, EachRecovered}
 use Rattle.volume_rules.specs.Steps.{AllKeep, AreChosen, EachSuits, Stands, Rests}
 use Rattle.volume_rules.proofs.ListLemmas.{only_one, same_both}
 

@@ -1,19 +1,21 @@
 -- One transaction on its way through one engine and the log: each step leaves the engine recoverable to each log that an image may have.
-use Rattle.std.proofs.Common.{◌≡◌, ◌≢◌, ◌⊎◌, inl, inr, ℕ, suc, ◌+◌, ◌<◌, ◌≤◌, List, [], ◌∷◌, ◌++◌, length, take, Some, Bool, refl, sym, ◌∙◌, ap, subst, arith}
-use Rattle.std.specs.Prelude.{Contains, All, slice_get}
+use Rattle.std.proofs.Common.{◌≡◌, ◌≢◌, ◌⊎◌, inl, inr, ℕ, suc, ◌+◌, ◌<◌, ◌≤◌, List, [], ◌∷◌, ◌++◌, length, take, Some, Bool, true, cond, refl, sym, ◌∙◌, ap, subst, arith}
+use Rattle.std.specs.Prelude.{Contains, All, slice_get, not, ◌==◌}
 use Rattle.std.proofs.lemmas.List.{append-nil, take_all, take-append-le}
 use Rattle.std.proofs.lemmas.List.Elements.{All-head, Contains-push}
+use Rattle.std.proofs.lemmas.Bool.Decides.{eqb_tells}
 use Rattle.row_format.specs.declared.change.Transaction.{Transaction}
 use Rattle.log_tables.specs.declared.gist.Prepared.{Prepared}
 use Rattle.log_tables.specs.Changes.{EachApplies, changes_on, tables_after}
-use Rattle.log_tables.specs.Gists.{Gist, after_prepare, after_commit, after_rollback, without_xid, has_xid}
+use Rattle.log_tables.specs.declared.gist.Gist.{Gist}
+use Rattle.log_tables.specs.Gists.{after_prepare, after_commit, after_rollback, without_xid, has_xid}
 use Rattle.engine_api.specs.Live.{allows}
 use Rattle.recovery_rules.specs.Places.{tables_at, part_at, share_at, Touches, IsNew}
 use Rattle.recovery_rules.specs.Trails.{Trails, IsAtLog, IsOwed, IsNext, IsReady}
 use Rattle.recovery_rules.specs.Recovery.{ShelfEngine, SafeEngine, standing_for, Suits, IsRecoverable, IsRecovered}
 use Rattle.recovery_rules.proofs.RecoveryLemmas.{IsRecoverable-after_prepare, IsRecoverable-append, IsRecoverable-after_commit, IsRecoverable-after_rollback, IsRecovered-none_prepared}
 use Rattle.recovery_rules.proofs.TrailsLemmas.{before_end, in_longer, empty_or_not}
-use Rattle.volume_rules.specs.Images.{Reader, with_gist, with_gists}
+use Rattle.volume_rules.specs.Readers.{Reader, with_gist, with_gists}
 use Rattle.volume_rules.proofs.ListLemmas.{of_one, only_one, not_on_none, at_end}
 
 -- the one engine, with a gist
@@ -92,12 +94,16 @@ is_next log it gist share t trails none = record {
     quiet place other old low high (inr some) =
         absurd (not_on_none (share_at it.kind.name log place other) (subst (λ (l : List Prepared). Contains l (share_at it.kind.name log place other)) none (trails.rest_prepared place other old low some)))
 
+-- a number is itself
+is_itself : (a : ℕ) → (a == a) ≡ true
+is_itself a = elim (eqb_tells a a) [ inl y ↦ y.0 | inr n ↦ absurd (n.1 refl) ]
+
 -- what is left without the one that there is: nothing
 none_left : (xid : ℕ) (gist : Gist) (share : Prepared) → gist.prepared ≡ [] → share.xid ≡ xid → without_xid xid (gist.prepared ++ share ∷ []) ≡ []
 none_left xid gist share none same = ap (λ (l : List Prepared). without_xid xid (l ++ share ∷ [])) none ∙ without_one xid share same
   where
     without_one : (x : ℕ) (p : Prepared) → p.xid ≡ x → without_xid x (p ∷ []) ≡ []
-    without_one x p is = cc
+    without_one x p is = subst (λ y. without_xid y (p ∷ []) ≡ []) is (ap (λ b. cond (not b) (p ∷ []) []) (is_itself p.xid))
 
 -- The engine commits what the log has.
 pub committed_is : (shelf : List ShelfEngine) (log : List Transaction) (it : Reader) (gist : Gist) (t : Transaction) → IsRecovered shelf log (alone it gist)

@@ -6,16 +6,10 @@ use Rattle.disk_model.specs.Disk.{Disk, now, contents}
 use Rattle.framed_file.specs.Framed.{IsFaithful}
 use Rattle.row_format.specs.declared.change.Transaction.{Transaction}
 use Rattle.binlog_file.specs.Logged.{IsLogHeader, IsLogged}
-use Rattle.log_tables.specs.Gists.{Gist}
-use Rattle.engine_api.specs.States.{Kind}
-use Rattle.engine_api.specs.Live.{allows}
-use Rattle.engine_api.specs.Reads.{Reading, AreFaithful, bytes_in}
-use Rattle.recovery_rules.specs.Recovery.{ShelfEngine, SafeEngine, IsRecoverable, IsRecovered}
-
--- a crash-safe engine, and how its files are read
-pub record Reader : Type 1 where
-  pub kind : Kind
-  pub reading : Reading
+use Rattle.log_tables.specs.declared.gist.Gist.{Gist}
+use Rattle.engine_api.specs.Reads.{AreFaithful, bytes_in}
+use Rattle.recovery_rules.specs.Recovery.{ShelfEngine, IsRecoverable, IsRecovered}
+use Rattle.volume_rules.specs.Readers.{Reader, with_gists}
 
 -- faithful crash images of the files of each engine
 abbrev pub AreImages : List Reader → (ℕ → File) → List (List (List ℕ)) → Type 0
@@ -29,16 +23,6 @@ abbrev pub StandFor : List Reader → List (List (List ℕ)) → List Gist → T
 StandFor [] [] [] = Unit {0}
 StandFor (it ∷ rest) (images ∷ more) (gist ∷ gists) = it.reading.stands images gist × StandFor rest more gists
 StandFor _ _ _ = ⊥
-
--- the engine, with files that stand for this gist
-abbrev pub with_gist : Reader → Gist → SafeEngine
-with_gist it gist = record { engine = it.kind.name; allows = allows it.kind.flags; gist = gist }
-
--- the engines, each with its gist
-abbrev pub with_gists : List Reader → List Gist → List SafeEngine
-with_gists [] gists = []
-with_gists (it ∷ rest) [] = []
-with_gists (it ∷ rest) (gist ∷ gists) = with_gist it gist ∷ with_gists rest gists
 
 -- an image of the log's file, and images of the engines' files, are recoverable to this log
 pub record IsRecoverableTo (shelf : List ShelfEngine) (readers : List Reader) (log : List Transaction) (image : List ℕ) (images : List (List (List ℕ))) : Type 0 where

@@ -4,10 +4,10 @@ use Rattle.disk_model.specs.File.{File}
 use Rattle.framed_file.specs.Framed.{IsPrefix}
 use Rattle.row_format.specs.declared.change.Transaction.{Transaction}
 use Rattle.binlog_file.specs.Logged.{Holds}
-use Rattle.log_tables.specs.Gists.{Gist}
+use Rattle.log_tables.specs.declared.gist.Gist.{Gist}
 use Rattle.engine_api.specs.Reads.{EachReads}
 use Rattle.recovery_rules.specs.Recovery.{ShelfEngine, IsRecoverable, IsRecovered}
-use Rattle.volume_rules.specs.Images.{Reader, with_gists}
+use Rattle.volume_rules.specs.Readers.{Reader, with_gists}
 
 -- each faithful crash image of each engine's files reads as one of the gists that are kept for it
 abbrev pub AllKeep : List Reader → List (List Gist) → (ℕ → File) → Type 0
