@@ -1,0 +1,5 @@
+pub mod ListLemmas
+pub mod StepLemmas
+pub mod ImageLemmas
+pub mod MomentLemmas
+pub mod SameLemmas
