@@ -1,9 +1,9 @@
 -- What stands where a piece ends: a transaction that goes on behind it, or none?
-use Rattle.std.proofs.Common.{◌≡◌, ⊎_elim, ℕ, ◌+◌, ◌-◌, ◌<◌, ◌≤◌, ◌^◌, Bool, true, false, List, [], ◌∷◌, ◌++◌, length, take, drop, get_or, None, refl, sym, ◌∙◌, ap, subst, arith, append_assoc, length-append, take-append-drop}
+use Rattle.std.proofs.Common.{◌≡◌, ⊎_elim, ℕ, ◌+◌, ◌-◌, ◌<◌, ◌≤◌, List, [], ◌∷◌, ◌++◌, length, take, drop, get_or, None, refl, sym, ◌∙◌, ap, arith, append_assoc, length-append, take-append-drop}
 use Rattle.std.specs.Int.{w32, from_le_bytes}
 use Rattle.std.proofs.lemmas.List.{append-nil, take_at, take-append-le}
 use Rattle.frame_codec.specs.Frame.{Event, size_of, checksum_of, frame_of, limit, IsFrameAt}
-use Rattle.frame_codec.specs.Chain.{chain_of, end_of, last_checksum, EndsWithin}
+use Rattle.frame_codec.specs.Chain.{chain_of, end_of, last_checksum}
 use Rattle.frame_codec.specs.Read.{Reads as ReadsFrame}
 use Rattle.frame_codec.specs.declared.read.Frame.{Frame}
 use Rattle.frame_codec.proofs.FrameLemmas.{length-frame_of, one_event}

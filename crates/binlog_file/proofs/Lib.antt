@@ -7,3 +7,4 @@ pub mod CallLemmas
 pub mod WalkLemmas
 pub mod StagedLemmas
 pub mod OpenLemmas
+pub mod TestLemmas

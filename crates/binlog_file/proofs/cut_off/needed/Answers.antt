@@ -1,11 +1,11 @@
 -- Frame after frame, none of an XID; then the front of one more, or of none.
-use Rattle.std.proofs.Common.{◌≡◌, ◌≤◌, ◌<◌, ◌-◌, ℕ, ◌+◌, length, refl, arith}
+use Rattle.std.proofs.Common.{◌+◌, refl, arith}
 use Rattle.std.proofs.lemmas.List.{take_rest}
 use Rattle.frame_codec.specs.Frame.{Event, IsFrameAt}
 use Rattle.frame_codec.specs.Read.{Reads}
 use Rattle.binlog_file.proofs.WalkLemmas.{some_is}
 use Rattle.binlog_file.proofs.PlainLemmas.{never_some}
-use Rattle.binlog_file.proofs.CutOffLemmas.{passed_none, passed_more, passed_later, xid_ends, never_cut, never_past, needs_cut}
+use Rattle.binlog_file.proofs.CutOffLemmas.{passed_none, passed_more, xid_ends, never_cut, never_past, needs_cut}
 use Rattle.binlog_file.proofs.cut_off.needed.Goals as goal
 use Rattle.binlog_file.proofs.cut_off.needed.Goals.{then-size-rest-via-then-size-rest, then-size-rest-via-else-size-rest+then-size-end}
 
