@@ -99,7 +99,7 @@ is_itself : (a : ℕ) → (a == a) ≡ true
 is_itself a = elim (eqb_tells a a) [ inl y ↦ y.0 | inr n ↦ absurd (n.1 refl) ]
 
 -- what is left without the one that there is: nothing
-none_left : (xid : ℕ) (gist : Gist) (share : Prepared) → gist.prepared ≡ [] → share.xid ≡ xid → without_xid xid (gist.prepared ++ share ∷ []) ≡ []
+pub none_left : (xid : ℕ) (gist : Gist) (share : Prepared) → gist.prepared ≡ [] → share.xid ≡ xid → without_xid xid (gist.prepared ++ share ∷ []) ≡ []
 none_left xid gist share none same = ap (λ (l : List Prepared). without_xid xid (l ++ share ∷ [])) none ∙ without_one xid share same
   where
     without_one : (x : ℕ) (p : Prepared) → p.xid ≡ x → without_xid x (p ∷ []) ≡ []
