@@ -25,7 +25,7 @@ pub others_same : (these those : List ℕ) (files was : ℕ → File) → AreApa
 others_same these those files was apart h = same_files those files was (λ f there. h f (λ here. apart f here there))
 
 -- faithful images are faithful by the same reading
-faithful_as : (old new : Reading) (place : ℕ) (files : List File) (images : List (List ℕ)) → SameReading old new → AreFaithful old place files images → AreFaithful new place files images
+pub faithful_as : (old new : Reading) (place : ℕ) (files : List File) (images : List (List ℕ)) → SameReading old new → AreFaithful old place files images → AreFaithful new place files images
 faithful_as old new place [] [] same h = tt
 faithful_as old new place [] (image ∷ images) same h = absurd h
 faithful_as old new place (file ∷ files) [] same h = absurd h
@@ -124,7 +124,7 @@ read_while tells (o ∷ os) (x ∷ xs) (suc n) d files was lt apart others far h
       read_while tells os xs n d files was within apart.1 others far.2 h.1 here,
     )
 
-same_reading : (a b c : Reading) → SameReading a b → SameReading b c → SameReading a c
+pub same_reading : (a b c : Reading) → SameReading a b → SameReading b c → SameReading a c
 same_reading a b c p q = record {
   faithful = λ k f i h. p.faithful k f i (q.faithful k f i h);
   faithful_back = λ k f i h. q.faithful_back k f i (p.faithful_back k f i h);

@@ -115,7 +115,7 @@ pub part-quiet : (e : List ℕ) (log : List Transaction) (from to : ℕ) → fro
 part-quiet e log from to low within quiet = quiet_part e log (to - from) from to (omega arith) within quiet
 
 -- what is left of the prepared ones was there and has another xid
-left_over : (xid : ℕ) (ps : List Prepared) (p : Prepared) → Contains (without_xid xid ps) p → Contains ps p × (p.xid ≢ xid)
+pub left_over : (xid : ℕ) (ps : List Prepared) (p : Prepared) → Contains (without_xid xid ps) p → Contains ps p × (p.xid ≢ xid)
 left_over xid ps p m =
     let both = Contains-filter_only (λ it. not (it.xid == xid)) ps p m in
     (both.0, unlike p.xid xid both.1)

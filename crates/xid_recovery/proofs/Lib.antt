@@ -1,0 +1,5 @@
+pub mod XidLemmas
+pub mod WayLemmas
+pub mod RunLemmas
+pub mod TurnLemmas
+pub mod OneLemmas
