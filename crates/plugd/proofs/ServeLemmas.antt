@@ -87,9 +87,6 @@ stops base lines replies old new disk end s same flag still = record {
   halts = λ is. s.shows.halts (sym flag ∙ is);
 }
 
-pub halts_of : (base : Base) (lines : List (List ℕ)) (replies : List Reply) (server : Server) (disk : Disk) → Serving base lines replies server disk → Halts base lines replies server disk
-halts_of base lines replies server disk s = record { state = s.state; stopped = s.stopped; serves = s.shows.serves; halts = s.shows.halts }
-
 err_ok : {T E : Type 0} (r : Result T E) (P : Type 0) → IsErr r → OnOk r P
 err_ok (Ok v) P is = cc
 err_ok (Err e) P is = tt

@@ -50,8 +50,12 @@ impl Coordinator for Kernel {
         self.server.halted
     }
 
-    ghost may_rest = { λ k base lines replies s.
-        record { state = s.state; stopped = s.stopped; serves = s.shows.serves; halts = s.shows.halts } };
+    ghost may_rest = { λ k base lines replies s. record {
+      state = s.state;
+      stopped = s.stopped;
+      serves = s.shows.serves;
+      halts = s.shows.halts;
+    } };
 }
 
 impl Kernel {
@@ -86,10 +90,10 @@ impl Kernel {
         }
     }
 
-    // The volume, and what was acknowledged.
+    // Ends it: the volume, and what it acknowledged.
     pub(crate) fn close(self) -> (Volume, Vec<Ack>)
         ensures volume { (result.0).storage ≡ self.storage }
-        ensures acks { result.1 ≡ self.server.acks }
+        ensures acks { (result.1).items ≡ ⟦<Kernel as Coordinator>⟧.acks_of self }
     {
         (
             Volume {

@@ -24,5 +24,5 @@ returns g c =
     other_end c.args.limit c.args.words.now _ c.status_of-status.result c.close-volume.result.1.items _ _ _ _ _ _ same_disk
     (played asks so.0 so.1 c.play_all-ending.result c.play_all-ending.new.session.core.server
     (c.play_all-ending.ensures.plays.ends so.0 _ (fresh so.0 _ _ c.in-Ok.kernel c.new-session.result so.2 c.new-session.ensures.core c.new-session.ensures.front c.new-session.ensures.replies))
-    (ap (λ v. v.items) c.close-volume.ensures.acks)
+    c.close-volume.ensures.acks
     (subst (λ (b : Bool). IsStatus c.play_all-ending.result b c.status_of-status.result) c.halted.ensures c.status_of-status.ensures))
