@@ -9,3 +9,4 @@ pub mod RoomLemmas
 pub mod LoadLemmas
 pub mod OpeningLemmas
 pub mod RecordingLemmas
+mod ReadyLemmas

@@ -8,9 +8,15 @@
 
 mod calls;
 mod copies;
+#[cfg(test)]
+mod crash_tests;
 mod engine;
+#[cfg(test)]
+mod fixture;
 mod replay;
 mod room;
+#[cfg(test)]
+mod tests;
 mod write;
 
 pub use engine::JournalEngine;
