@@ -4,7 +4,7 @@ ghost use Rattle.std.specs.declared.option.Option.TheVariants.{None};
 
 use row_format::Name;
 
-/// Where a scan of a table stands: before the row at a position, from 0. `rnd_init` of an engine begins one.
+/// Where a scan of a table stands: before the row at a position, from 0. No call of an engine takes one yet.
 #[derive(Drop)]
 pub struct Cursor {
     pub table: Option<Name>,

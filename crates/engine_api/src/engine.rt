@@ -27,8 +27,8 @@ use row_format::{Name, Row, Schema, Text, Value};
 
 /// A storage engine: tables that transactions change, and files of its own.
 ///
-/// A `txn` is a session. A call that names a table needs it to be live, except `create`, `external_lock` and `live`. After `Device` an
-/// engine is only dropped, or begun anew by `init`; after any other fault all is as it was.
+/// A `txn` is a session. A call that names a table needs it to be live, except `create`, `external_lock` and `live`. After `Device`, and
+/// after any fault of `init`, an engine is only dropped, or begun anew by `init`; after any other fault all is as it was.
 pub trait Engine: Drop {
     /// What never changes of it.
     ghost kind: { Self → Kind };
@@ -59,7 +59,7 @@ pub trait Engine: Drop {
 
     /// Begins anew from its files. An engine that is not crash safe takes its definitions from `tables`, and its last number is then 0.
     ///
-    /// `NotAVolume` where the files stand for no gist: the first of them. `Device`; `Memory`.
+    /// `NotAVolume` where the files stand for no gist: one of them. `Device`; `Memory`.
     fn init(&mut self, volume: &mut dyn Storage, tables: &[Definition]) -> Result<(), EngineFault>
         ensures same { IsSame (kind self.old) (kind self.new)
             (reading self.old) (reading self.new) }

@@ -41,7 +41,7 @@ pub enum EngineFault {
     Device,
     /// This file of the engine is not what its format says.
     NotAVolume { file: u32 },
-    /// There was no memory. All is as it was.
+    /// There was no memory. All is as it was, unless the call was `init`.
     Memory,
 }
 

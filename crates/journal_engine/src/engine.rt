@@ -11,7 +11,7 @@ use row_format::{Name, Text};
 use std::alloc::{AllocError, Global};
 use std::marker::Model;
 
-/// The engine JOURNAL. Before `init`, and after the device failed, it has no journal and no table.
+/// The engine JOURNAL. Before `init`, and after the device failed in any other call, it has no journal and no table.
 #[derive(Drop)]
 pub struct JournalEngine {
     pub(crate) alloc: Global,
