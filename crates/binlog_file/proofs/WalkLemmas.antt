@@ -21,7 +21,7 @@ use Rattle.row_format.specs.declared.change.Transaction.{Transaction}
 use Rattle.binlog_events.specs.Transaction.{events_of}
 use Rattle.binlog_file.specs.Logged.{header_checksum, log_header, all_events, log_end, log_checksum, log_of, AreFit}
 use Rattle.binlog_events.specs.Found.{Finds, NoTransactionAt}
-use Rattle.binlog_file.specs.Opening.{Reached, Needs, NeverAt, CutOff, Walks, Further, Walked}
+use Rattle.binlog_file.specs.Opening.{Reached, Needs, NeverAt, CutOff, Walks, Walked}
 use Rattle.binlog_file.proofs.LoggedLemmas.{some_bytes, all_events-append, all_events_one, AreFit-append}
 use Rattle.binlog_file.proofs.CallLemmas.{length-log_of, log_of-append, log_end-append, log_checksum-append}
 
@@ -161,17 +161,6 @@ walk_cut first stands old scan bytes rest is_last needs walking not_last some ne
     with_it : (o : Option ℕ) → IfSome o (Needs scan.crc scan.len rest) → IfSome o (λ n. (is_last ≡ false) × Needs scan.crc scan.len rest n)
     with_it None so = tt
     with_it (Some n) so = (not_last, so)
-
--- and then the reading comes further, or the piece is too short
-pub walk_further : (first stands : List Transaction → Type 0) (old scan : Scan) (bytes rest : List ℕ) (is_last : Bool) (needs : Option ℕ)
-    → Walking first stands old scan bytes rest → is_last ≡ false → IfSome needs (Needs scan.crc scan.len rest) → IfSome needs (Further old scan bytes is_last)
-walk_further first stands old scan bytes rest is_last None walking not_last so = tt
-walk_further first stands old scan bytes rest is_last (Some n) walking not_last so = record {
-  not_last = not_last;
-  later = walking.later;
-  more = omega (arith, walking.size, so.more);
-  within = so.within;
-}
 
 -- Pieces of the file.
 
