@@ -3,3 +3,4 @@ pub mod WayLemmas
 pub mod RunLemmas
 pub mod TurnLemmas
 pub mod OneLemmas
+pub mod ElsewhereLemmas
