@@ -1,4 +1,4 @@
-//! The coordinator of one session: it answers each line, and logs what a line inserts.
+//! The server of one session: it answers each line, and logs what a line inserts.
 //!
 //! ```text
 //! serving --a fault of the device at a commit--> halted
@@ -67,11 +67,7 @@ impl Server {
     }
 
     // Logs changes and acknowledges them. Nothing is appended where the log would pass its limit, nor after want of memory.
-    fn commit(
-        &mut self,
-        volume: &mut dyn Storage,
-        changes: Changes,
-    ) -> Result<Reply, AllocError>
+    fn commit(&mut self, volume: &mut dyn Storage, changes: Changes) -> Result<Reply, AllocError>
         requires some { 0 < length changes }
         requires few { length changes < 2 ^ 31 }
         requires fit { AreFitChanges changes }

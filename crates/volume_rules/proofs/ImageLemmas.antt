@@ -30,13 +30,15 @@ pub stands_recoverable : (shelf : List ShelfEngine) (readers : List Reader) (low
     → Stands shelf readers low high kept files → EachRecoverable shelf readers files
 stands_recoverable shelf readers low high kept files is image images within faithful are =
     let between = is.log image within faithful in
-    let all = chosen readers kept files images is.engines are in
-    (between.list, record {
-      logged = between.logged;
-      gists = all.0;
-      stand = all.2;
-      recoverable = is.suits between.list all.0 between.at_least between.at_most all.1;
-    })
+    let all = chosen readers kept files images is.engines are in (
+      between.list,
+      record {
+        logged = between.logged;
+        gists = all.0;
+        stand = all.2;
+        recoverable = is.suits between.list all.0 between.at_least between.at_most all.1;
+      },
+    )
 
 -- of one of each there is one choice
 one_choice : (gists chosen : List Gist) → AreChosen (map (λ gist. gist ∷ []) gists) chosen → chosen ≡ gists

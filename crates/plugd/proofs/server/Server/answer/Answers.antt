@@ -74,6 +74,7 @@ returns-in_ok-reply-in-Insert g c = record {
     err = λ base lines replies s. tt;
   };
 }
+
 pub returns-in_err-command : goal.returns-in_err-command
 returns-in_err-command g c =
     record { answers = answers_err c.args.front.now c.args.self.now _ _ _ _ (search rules) refl refl refl }
