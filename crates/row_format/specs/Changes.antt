@@ -20,9 +20,9 @@ IsPlace (Some column) place = place ≡ 0
 
 -- a row that fits at this place, in the table of this map
 pub record IsPlaced (map : TableMap) (place : ℕ) (row : List Value) : Type 0 where
-  pub map : IsMap map
-  pub place : IsPlace map.schema.key place
-  pub row : IsRow map.schema row
+  pub mapped : IsMap map
+  pub placed : IsPlace map.schema.key place
+  pub suits : IsRow map.schema row
 
 -- a change that fits: names are names, schemas are schemas, and rows go into their table
 abbrev pub IsFitChange : Change → Type 0
