@@ -201,7 +201,10 @@ fn changes_apply_behind_others(rt: HostRuntime) -> Result<(), Fail> {
         all.push_str(words)?;
         all.push_str(" ")?;
         all.push_str(last)?;
-        assert!(rt; all_apply(alloc, all.as_str())? == applies, "{words} {last}");
+        assert!(rt;
+            all_apply(alloc, all.as_str())? == applies,
+            "{words} {last}"
+        );
     }
     Ok(())
 }

@@ -95,7 +95,8 @@ fn place_of(places: &[Place], records: &[Record], column: usize, row: &Row) -> R
 
 // Whether the row that stands at one of the places, counted from 0, is this one.
 fn is_row_at(places: &[Place], records: &[Record], i: usize, before: &Row) -> bool
-    ensures { result ≡ is_row (option_and_then (row_at records.now) (slice_get places.now i)) before.now }
+    ensures { result
+        ≡ is_row (option_and_then (row_at records.now) (slice_get places.now i)) before.now }
 {
     match places.get(i) {
         Some(place) => match row_at(records, *place) {
@@ -106,7 +107,7 @@ fn is_row_at(places: &[Place], records: &[Record], i: usize, before: &Row) -> bo
     }
 }
 
-// Whether two rows have one key.
+// Whether the row at a place has the key of this row.
 fn has_key_of(records: &[Record], column: usize, place: Place, row: &Row) -> bool
     ensures { result ≡ same_value (key_at records.now column place) (key_in column row.now) }
 {
@@ -133,7 +134,7 @@ impl Indexed {
         Some(i)
     }
 
-    // Whether the row at this place, from 0, is this one.
+    // This place, from 0, where this row stands there; None where it does not.
     fn find_at(&self, records: &[Record], at: usize, before: &Row) -> Option<usize>
         ensures within { IfSome result (λ i. i < length self.now.rows.items) }
         ensures found { (table : Table) → IsTableAt records.now self.now table
@@ -207,7 +208,8 @@ impl Indexed {
         place: Place,
     ) -> Result<bool, AllocError>
         requires { i < length self.old.rows.items }
-        ensures { (table : Table) (after : List Cell) (at : ℕ) → IsTableAt records.now self.old table
+        ensures { (table : Table) (after : List Cell) (at : ℕ)
+            → IsTableAt records.now self.old table
             → table.definition.schema.key ≡ Some column
             → IsRowFound (Some column) at before.now table.rows i
             → row_at records.now place ≡ Some after
@@ -222,8 +224,8 @@ impl Indexed {
         self.add_keyed(records, column, place)
     }
 
-    /// Puts the row at a place in place of another, which is found by its key, or as the one so far behind the first where the table
-    /// has no key; false where that row is not there, or another row has the new key.
+    /// Puts the row at a place among the records in place of the row before, which is found by its key, or at `at`, from 0, where the
+    /// table has no key; false where that row is not there, or another row has the new key.
     pub(crate) fn replace_row(
         &mut self,
         records: &[Record],
@@ -251,8 +253,7 @@ impl Indexed {
         }
     }
 
-    /// Takes out a row, which is found by its key, or as the one so far behind the first where the table has no key; false where it
-    /// is not there.
+    /// Takes out a row, which is found by its key, or at `at`, from 0, where the table has no key; false where it is not there.
     pub(crate) fn remove_row(&mut self, records: &[Record], at: u32, before: &Row) -> bool
         ensures { (table : Table) → IsTableAt records.now self.old table
             → HasRows result records.now self.new (removing at before.now table) table }

@@ -136,8 +136,8 @@ impl TableIndex {
         self.tables[i].add_row(records, place)
     }
 
-    // Puts the row at a place in place of another, in the table that the map names; false where there is no such table, it has another
-    // schema, the row before is not there, or another row has the new key.
+    // Puts the row at a place in place of the row before, in the table that the map names; false where there is no such table, it has
+    // another schema, the row before is not there, or another row has the new key.
     fn update(
         &mut self,
         records: &[Record],
