@@ -1,10 +1,8 @@
 -- The row that a change takes out of a table, and what the index has without it or with another in its place.
-use Rattle.std.proofs.Common.{◌≡◌, ℕ, ◌<◌, zero, suc, List, [], ◌∷◌, length, get_or, set, Some, None, Bool, true, false, cond, refl, sym, ap, subst, ◌∙◌, arith}
-use Rattle.std.specs.Prelude.{Option, option_and_then, Result, Ok, Err, IfOk}
+use Rattle.std.proofs.Common.{◌≡◌, ℕ, ◌<◌, zero, suc, List, [], ◌∷◌, length, get_or, set, Some, None, Bool, true, false, refl, sym, ap, subst, ◌∙◌, arith}
+use Rattle.std.specs.Prelude.{Option, option_and_then, Result, Ok, Err, IfOk, nat_eq, unwrap_or}
 use Rattle.std.specs.List.{AllZip, slice_get, insert, remove}
-use Rattle.std.specs.Ordering.{ordering_index}
-use Rattle.std.specs.Prelude.{nat_eq, unwrap_or}
-use Rattle.std.specs.Ordering.{is_eq}
+use Rattle.std.specs.Ordering.{ordering_index, is_eq}
 use Rattle.std.specs.declared.cmp.Ordering.{Ordering}
 use Rattle.std.specs.declared.cmp.Ordering.TheVariants.{Less, Equal, Greater}
 use Rattle.std.specs.declared.vec.Vec.{Vec}
@@ -16,18 +14,17 @@ use Rattle.sql_value.specs.declared.value.Value.{Value}
 use Rattle.sql_value.specs.declared.value.Value.TheVariants.{Null}
 use Rattle.sql_value.specs.Values.{value_cmp, same_value}
 use Rattle.sql_value.proofs.SameLemmas.{same_value-true, same_value_refl, same_value-is_eq}
-use Rattle.row_format.specs.Rows.{same_row}
 use Rattle.row_format.proofs.SameLemmas.{same_row-true}
 use Rattle.log_tables.specs.declared.table.Table.{Table}
-use Rattle.log_tables.specs.Keys.{key_in, has_key, row_with, without_key, is_row, inserted, updated, deleted, IsInKeyOrder, IsPlaceFor, IsOrdered}
+use Rattle.log_tables.specs.Keys.{key_in, has_key, row_with, is_row, inserted, updated, deleted, IsInKeyOrder, IsPlaceFor, IsOrdered}
 use Rattle.log_tables.proofs.OrderLemmas.{IsOrdered-deleted, IsOrdered-updated}
 use Rattle.log_tables.proofs.PlaceLemmas.{rises, place-free, inserted-place, row_with-at, without_key-at}
-use Rattle.log_tables.proofs.KeyLemmas.{deleted-not_there, deleted-there, updated-there}
+use Rattle.log_tables.proofs.KeyLemmas.{deleted-not_there, deleted-there}
 use Rattle.redo_journal.specs.declared.record.Record.{Record}
 use Rattle.redo_journal.specs.declared.place.Place.{Place}
 use Rattle.redo_journal.specs.declared.index.Indexed.{Indexed}
-use Rattle.redo_journal.specs.Index.{row_at, key_at, IsRowAt, AreRowsAt, IsTableAt, Finds, FindsRow, IsRowFound, HasRows, table_of, adding, replacing, removing}
-use Rattle.redo_journal.proofs.IndexLemmas.{zip_length, zip_append, zip_cut, in_order, found_here, key_of_row, read_row}
+use Rattle.redo_journal.specs.Index.{row_at, key_at, IsRowAt, AreRowsAt, IsTableAt, Finds, IsRowFound, HasRows, table_of, adding, replacing, removing}
+use Rattle.redo_journal.proofs.IndexLemmas.{zip_append, zip_cut, in_order, found_here, key_of_row}
 
 -- The row at the place with this number is that of the table.
 pub row_of_place : (records : List Record) (places : List Place) (rows : List (List Value)) (i : ℕ) → AreRowsAt records places rows → option_and_then (row_at records) (slice_get places i) ≡ slice_get rows i
@@ -241,15 +238,6 @@ row_moved records it it' rows column at before after i table result is key found
         → adding after (table_of table (remove table.rows i)) ≡ replacing at before after table → IfOk r (λ b. HasRows b records it' (replacing at before after table) table)
     go (Ok b) done same = subst (λ (o : Option (List (List Value))). HasRows b records it' o table) same (one b (adding after (table_of table (remove table.rows i))) (remove table.rows i) done)
     go (Err e) done same = tt
-
--- a row that is not there is not replaced
-pub replaces_none : (key : Option ℕ) (at : ℕ) (before after : List Value) (rows : List (List Value)) → deleted key at before rows ≡ None → updated key at before after rows ≡ None
-replaces_none None at before after rows none = go (is_row (slice_get rows at) before) none
-  where
-    go : (b : Bool) → cond b (Some (remove rows at)) None ≡ None → cond b (Some (set rows at after)) None ≡ None
-    go true h = cc
-    go false h = refl
-replaces_none (Some column) at before after rows none = ap (λ (o : Option (List (List Value))). option_and_then (inserted (Some column) after) o) none
 
 eq_index : (o : Ordering) → nat_eq (ordering_index o) 1 ≡ is_eq o
 eq_index Less = refl

@@ -1,6 +1,6 @@
 -- What stands at places among records, and where a row goes among the rows of a table.
 use Rattle.std.proofs.Common.{◌≡◌, ◌≢◌, ℕ, ◌<◌, ◌≤◌, zero, suc, List, [], ◌∷◌, ◌++◌, length, take, drop, get_or, Some, None, true, false, refl, sym, ap, ◌∙◌, arith, inl, inr, subst, ◌⊎◌}
-use Rattle.std.specs.Prelude.{Option, is_some, IsTrue, unwrap_or, option_and_then, nat_eq}
+use Rattle.std.specs.Prelude.{Option, is_some, unwrap_or, option_and_then, nat_eq}
 use Rattle.std.specs.List.{AllZip, insert, slice_get}
 use Rattle.std.specs.List.Sorted.{IsPartitionedBy}
 use Rattle.std.specs.Ordering.{is_lt, is_eq, ordering_reverse, ordering_index}
@@ -168,10 +168,6 @@ keyed_taken records it column place slice i table read row is key known at same 
     let taken : is_some (row_with column (key_in column row) table.rows) ≡ true =
     subst (λ (r : List Value). is_some (row_with column (key_in column r) table.rows) ≡ true) (read_row read row (row_at records place) known at) (taken_at column (key_in column read) table.rows i [] here.0 here.1) in
     ap (λ (k : Option ℕ). inserted k row table.rows) key ∙ inserted-taken column row table.rows taken
-
--- where no row is at a place, none was read there
-pub no_row : {P : Type 0} (o : Option (List Value)) (row : List Value) → None ≡ o → o ≡ Some row → P
-no_row o row none at = cc (none ∙ at)
 
 -- the schema that was found is that of the table
 pub schema_of_table : (records : List Record) (it : Indexed) (table : Table) (schema : Schema) → IsTableAt records it table

@@ -10,7 +10,7 @@ use Rattle.sql_value.specs.declared.value.Value.{Value}
 use Rattle.row_format.specs.declared.schema.Schema.{Schema}
 use Rattle.log_tables.specs.declared.table.Definition.{Definition}
 use Rattle.log_tables.specs.declared.table.Table.{Table}
-use Rattle.log_tables.specs.Keys.{inserted, IsOrdered}
+use Rattle.log_tables.specs.Keys.{IsOrdered}
 use Rattle.log_tables.specs.Tables.{is_named, table_named, at_table, new_table}
 use Rattle.row_format.specs.declared.change.TableMap.{TableMap}
 use Rattle.row_format.specs.declared.change.Change.{Change}

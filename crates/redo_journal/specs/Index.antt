@@ -1,5 +1,5 @@
 -- What does an index into a list of records stand for? (This project.)
-use Rattle.std.specs.Prelude.{Result, Ok, Err, IfSome, IfNone, length, get_or, position, ◌≡◌, ℕ, List, Option, Some, None, Bool, true, false, option_and_then, option_map, slice_get, unwrap_or, is_some, IsTrue, cond, [], ◌∷◌, ◌++◌, ◌<◌, ◌^◌, ◌&&◌, not, is_none, nat_lt}
+use Rattle.std.specs.Prelude.{Result, Ok, Err, IfSome, IfNone, length, get_or, position, ◌≡◌, ℕ, List, Option, Some, None, Bool, true, false, option_and_then, option_map, slice_get, unwrap_or, is_some, cond, [], ◌∷◌, ◌++◌, ◌<◌, ◌^◌, ◌&&◌, not, is_none, nat_lt}
 use Rattle.std.specs.List.{AllZip}
 use Rattle.std.specs.Str.{bytes_eq}
 use Rattle.std.specs.List.Sorted.{IsPartitionPoint}

@@ -1,4 +1,4 @@
-use Rattle.std.proofs.Common.{ℕ, None, ◌∙◌, refl, ap, subst}
+use Rattle.std.proofs.Common.{ℕ, ◌∙◌, refl, ap, subst}
 use Rattle.std.specs.Prelude.{Option}
 use Rattle.std.specs.Vec.{with_item}
 use Rattle.row_format.specs.declared.schema.Schema.{Schema}
