@@ -9,7 +9,8 @@ use Rattle.frame_codec.proofs.FrameLemmas.{length-le32, length-le64}
 use Rattle.row_format.specs.declared.schema.Schema.{Schema}
 use Rattle.row_format.specs.declared.change.TableMap.{TableMap}
 use Rattle.row_format.specs.declared.change.Change.{Change}
-use Rattle.row_format.specs.Spelling.{schema_spelling, map_spelling}
+use Rattle.row_format.specs.Spelling.{schema_spelling, map_spelling, row_image}
+use Rattle.sql_value.specs.declared.value.Value.{Value}
 use Rattle.binlog_events.specs.Changes.{change_event, map_of, map_events, change_events}
 use Rattle.binlog_events.specs.Items.{item_spelling, items_of_changes, list_spelling}
 use Rattle.binlog_events.specs.Transaction.{begin, xid_event, events_of}
@@ -20,6 +21,12 @@ length-map_spelling map = omega (arith, length-append map.table (schema_spelling
 
 pub length-create : (table engine : List ℕ) (schema : Schema) → length (2 ∷ ((length table ∷ table) ++ ((length engine ∷ engine) ++ schema_spelling schema))) ≡ 3 + length table + length engine + length (schema_spelling schema)
 length-create table engine schema = omega (arith, length-append table ((length engine ∷ engine) ++ schema_spelling schema), length-append engine (schema_spelling schema))
+
+pub update_len : (place : ℕ) (before after : List Value) → length (le32 place ++ (row_image before ++ row_image after)) ≡ 4 + length (row_image before) + length (row_image after)
+update_len place before after = omega (arith, length-append (le32 place) (row_image before ++ row_image after), length-le32 place, length-append (row_image before) (row_image after))
+
+pub delete_len : (place : ℕ) (before : List Value) → length (le32 place ++ row_image before) ≡ 4 + length (row_image before)
+delete_len place before = omega (arith, length-append (le32 place) (row_image before), length-le32 place)
 
 -- the events of the changes that are left
 pub sizes_split : (before : Option TableMap) (changes : List Change) (i : ℕ) (change : Change) → i < length changes → change ≡ get_or changes i change

@@ -24,7 +24,9 @@ use Rattle.binlog_events.proofs.WalkLemmas.{IsKnown, Follows, Leads, item_takes,
 -- an event that is read as an item is no XID
 no_xid : (before : Before) (bytes : List ℕ) → item_at before 16 bytes ≡ None
 unfolding item_at
-no_xid before bytes = refl
+no_xid Other bytes = refl
+no_xid (RowOf map) bytes = refl
+no_xid (MapOf map) bytes = refl
 
 pub not_xid : (before : Before) (kind : ℕ) (bytes : List ℕ) (it : Item × List ℕ) → item_at before kind bytes ≡ Some it → (kind == 16) ≡ false
 not_xid before kind bytes it is = ne_eqb kind 16 (λ at. nothing (sym (no_xid before bytes) ∙ ap (λ (k : ℕ). item_at before k bytes) (sym at) ∙ is))

@@ -4,7 +4,7 @@ use Rattle.std.specs.List.{flat_map, list_all}
 use Rattle.frame_codec.specs.Bytes.{le32}
 use Rattle.frame_codec.specs.Frame.{Event}
 use Rattle.row_format.specs.declared.change.Change.{Change}
-use Rattle.row_format.specs.declared.change.Change.TheVariants.{Install}
+use Rattle.row_format.specs.declared.change.Change.TheVariants.{Install, Uninstall}
 use Rattle.row_format.specs.Spelling.{Takes}
 use Rattle.row_format.specs.Changes.{AreFitChanges}
 use Rattle.binlog_events.specs.Changes.{change_events}
@@ -24,6 +24,7 @@ list_spelling changes = le32 (length (items_of_changes changes)) ++ flat_map ite
 -- a change on a table: a journal has no others
 abbrev pub is_on_table : Change → Bool
 is_on_table (Install name) = false
+is_on_table (Uninstall name) = false
 is_on_table _ = true
 
 -- changes that have a list form

@@ -7,7 +7,7 @@ use Rattle.std.specs.Option.{option_to_list}
 use Rattle.frame_codec.specs.Frame.{Event}
 use Rattle.row_format.specs.declared.change.TableMap.{TableMap}
 use Rattle.row_format.specs.declared.change.Change.{Change}
-use Rattle.row_format.specs.declared.change.Change.TheVariants.{Install, Create, Insert}
+use Rattle.row_format.specs.declared.change.Change.TheVariants.{Install, Uninstall, Create, Drop, Insert, Update, Delete}
 use Rattle.row_format.specs.declared.change.Transaction.{Transaction}
 use Rattle.binlog_events.specs.declared.walk.Before.{Before}
 use Rattle.binlog_events.specs.declared.walk.Told.{Told}
@@ -33,13 +33,13 @@ create_at bytes = do
   schema ← schema_at engine.1
   Some (Create table.0 engine.0 schema.0, schema.1)
 
--- an Install behind its first byte
-unfoldable pub install_at : List ℕ → Option (Change × List ℕ)
-install_at bytes = name_at bytes >>= λ it. Some (Install it.0, it.1)
+-- a change that is told by a name alone, behind its first byte
+unfoldable pub named_at : (List ℕ → Change) → List ℕ → Option (Change × List ℕ)
+named_at make bytes = name_at bytes >>= λ it. Some (make it.0, it.1)
 
 -- the change of a QUERY by its first byte
 abbrev pub query_of : ℕ → List ℕ → Option (Change × List ℕ)
-query_of byte rest = cond (byte == 2) (create_at rest) (cond (byte == 4) (install_at rest) None)
+query_of byte rest = cond (byte == 2) (create_at rest) (cond (byte == 3) (named_at Drop rest) (cond (byte == 4) (named_at Install rest) (cond (byte == 5) (named_at Uninstall rest) None)))
 
 -- a QUERY
 unfoldable pub query_at : List ℕ → Option (Change × List ℕ)
@@ -62,23 +62,54 @@ may_follow (MapOf it) map = false
 abbrev pub map_item : Before → List ℕ → Option (Item × List ℕ)
 map_item before bytes = map_at bytes >>= λ it. where_so (may_follow before it.0) (record { changes = []; before = MapOf it.0 }, it.1)
 
+-- a place may be told in a table with this key column, or with none
+abbrev pub is_place : Option ℕ → ℕ → Bool
+is_place None place = true
+is_place (Some column) place = place == 0
+
+-- the place of a row in a table with this key column, or with none
+unfoldable pub place_at : Option ℕ → List ℕ → Option (ℕ × List ℕ)
+place_at key bytes = piece_at 4 bytes >>= λ it. where_so (is_place key (from_le_bytes w32 it.0)) (from_le_bytes w32 it.0, it.1)
+
+-- an Insert into the table of this map
+unfoldable pub insert_at : TableMap → List ℕ → Option (Change × List ℕ)
+insert_at map bytes = row_at map.schema bytes >>= λ row. Some (Insert map row.0, row.1)
+
+-- an Update of that table
+unfoldable pub update_at : TableMap → List ℕ → Option (Change × List ℕ)
+update_at map bytes = do
+  place ← place_at map.schema.key bytes
+  before ← row_at map.schema place.1
+  after ← row_at map.schema before.1
+  Some (Update map place.0 before.0 after.0, after.1)
+
+-- a Delete from that table
+unfoldable pub delete_at : TableMap → List ℕ → Option (Change × List ℕ)
+delete_at map bytes = do
+  place ← place_at map.schema.key bytes
+  before ← row_at map.schema place.1
+  Some (Delete map place.0 before.0, before.1)
+
+-- a row change by its type byte
+abbrev pub row_change_at : ℕ → TableMap → List ℕ → Option (Change × List ℕ)
+row_change_at kind map bytes = cond (kind == 30) (insert_at map bytes) (cond (kind == 31) (update_at map bytes) (cond (kind == 32) (delete_at map bytes) None))
+
 -- the table map by which a row is read
 abbrev pub map_before : Before → Option TableMap
 map_before Other = None
 map_before (RowOf map) = Some map
 map_before (MapOf map) = Some map
 
--- a row behind a table map, or behind a row change
-abbrev pub row_item : Before → List ℕ → Option (Item × List ℕ)
-row_item before bytes = do
+-- a row change behind a table map, or behind a row change
+abbrev pub row_item : Before → ℕ → List ℕ → Option (Item × List ℕ)
+row_item before kind bytes = do
   map ← map_before before
-  row ← row_at map.schema bytes
-  Some (record { changes = Insert map row.0 ∷ []; before = RowOf map }, row.1)
+  it ← row_change_at kind map bytes
+  Some (record { changes = it.0 ∷ []; before = RowOf map }, it.1)
 
 -- an item by its type byte
 unfoldable pub item_at : Before → ℕ → List ℕ → Option (Item × List ℕ)
-item_at before kind bytes =
-    cond (kind == 2) (query_item before bytes) (cond (kind == 19) (map_item before bytes) (cond (kind == 30) (row_item before bytes) None))
+item_at before kind bytes = cond (kind == 2) (query_item before bytes) (cond (kind == 19) (map_item before bytes) (row_item before kind bytes))
 
 -- no table map waits for its row change
 abbrev pub may_end : Before → Bool

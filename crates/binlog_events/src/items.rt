@@ -147,7 +147,7 @@ fn take_items(alloc: Global, count: u32, bytes: &[u8]) -> Result<(Vec<Change>, &
 fn is_about_table(change: &Change) -> bool
     ensures { result ≡ is_on_table change.now }
 {
-    !matches!(change, Change::Install { .. })
+    !matches!(change, Change::Install { .. } | Change::Uninstall { .. })
 }
 
 // Whether all changes are on tables.

@@ -1,5 +1,5 @@
 //! How many bytes lists of changes and transactions have, told without writing them.
-ghost use Rattle.std.specs.Prelude.{◌≡◌, ◌≤◌, ◌<◌, ◌+◌, ◌^◌, ℕ, length, sum_by, IfSome, None};
+ghost use Rattle.std.specs.Prelude.{◌≡◌, ◌≤◌, ◌<◌, ◌+◌, ◌*◌, ◌^◌, ℕ, length, sum_by, IfSome, None};
 ghost use Rattle.std.specs.Option.{option_copied};
 ghost use Rattle.frame_codec.specs.Frame.{size_of};
 ghost use Rattle.row_format.specs.Changes.{IsMap, IsFitChange, AreFitChanges};
@@ -24,13 +24,16 @@ fn map_size(map: Option<&TableMap>) -> u64
 }
 
 // How many bytes the event of a change itself has.
+#[tactic(auto, using(crate::proofs::LenLemmas::update_len, crate::proofs::LenLemmas::delete_len))]
 fn own_size(change: &Change) -> u64
     requires { IsFitChange change.now }
     ensures value { result ≡ size_of (change_event change.now) }
-    ensures small { result ≤ 2100 }
+    ensures small { result ≤ 4100 }
 {
     match change {
         Change::Install { name } => 25 + name.as_bytes().len() as u64,
+        Change::Uninstall { name } => 25 + name.as_bytes().len() as u64,
+        Change::Drop { table } => 25 + table.as_bytes().len() as u64,
         Change::Create {
             table,
             engine,
@@ -39,6 +42,13 @@ fn own_size(change: &Change) -> u64
             26 + table.as_bytes().len() as u64 + engine.as_bytes().len() as u64 + schema_len(schema)
         }
         Change::Insert { map, row } => 23 + image_len(&map.schema, row) as u64,
+        Change::Update {
+            map,
+            before,
+            after,
+            ..
+        } => 27 + image_len(&map.schema, before) as u64 + image_len(&map.schema, after) as u64,
+        Change::Delete { map, before, .. } => 27 + image_len(&map.schema, before) as u64,
     }
 }
 
@@ -47,7 +57,7 @@ fn change_size(before: Option<&TableMap>, change: &Change) -> u64
     requires { IsFitChange change.now }
     ensures value { result ≡ sum_by size_of (map_events (option_copied before.entry) change.now)
         + size_of (change_event change.now) }
-    ensures small { result ≤ 4096 }
+    ensures small { result ≤ 5300 }
 {
     map_size(map_needed(before, change)) + own_size(change)
 }
@@ -57,7 +67,7 @@ fn changes_size(changes: &[Change]) -> u64
     requires fit { AreFitChanges changes.now }
     requires few { length changes.now < 2 ^ 32 }
     ensures value { result ≡ sum_by size_of (change_events None changes.now) }
-    ensures small { result < 2 ^ 44 }
+    ensures small { result ≤ 5300 * 2 ^ 32 }
 {
     let mut sum = 0;
     let mut before = None;

@@ -21,20 +21,53 @@ const CREATE: [u8; 22] = [
 // The body of INSTALL of JOURNAL.
 const INSTALL: [u8; 9] = [4, 7, b'J', b'O', b'U', b'R', b'N', b'A', b'L'];
 
+// The body of DROP TABLE t.
+const DROP: [u8; 3] = [3, 1, b't'];
+
+// The body of UNINSTALL of JOURNAL.
+const UNINSTALL: [u8; 9] = [5, 7, b'J', b'O', b'U', b'R', b'N', b'A', b'L'];
+
 // The body of the table map of t.
 const MAP: [u8; 13] = [1, b't', 2, 0, 1, b'k', 8, 0, 1, b'v', 15, 10, 1];
+
+// The body of the table map of t without a key.
+const MAP_WITHOUT_KEY: [u8; 13] = [1, b't', 2, 255, 1, b'k', 8, 0, 1, b'v', 15, 10, 1];
+
+// The body of an UPDATE of that row to (2, NULL), at place 0.
+const UPDATE: [u8; 24] = [
+    0, 0, 0, 0, 0, 1, 0, 0, 0, 0, 0, 0, 0, 1, b'x', 2, 2, 0, 0, 0, 0, 0, 0, 0,
+];
+
+// The same at place 1.
+const UPDATE_AT_1: [u8; 24] = [
+    1, 0, 0, 0, 0, 1, 0, 0, 0, 0, 0, 0, 0, 1, b'x', 2, 2, 0, 0, 0, 0, 0, 0, 0,
+];
+
+// The body of a DELETE of that row, at place 0.
+const DELETE: [u8; 15] = [0, 0, 0, 0, 0, 1, 0, 0, 0, 0, 0, 0, 0, 1, b'x'];
+
+// The same at place 256.
+const DELETE_AT_256: [u8; 15] = [0, 1, 0, 0, 0, 1, 0, 0, 0, 0, 0, 0, 0, 1, b'x'];
 
 // The body of the XID of transaction 1.
 const XID: [u8; 8] = [1, 0, 0, 0, 0, 0, 0, 0];
 
-// The event that a letter stands for: begin, install, create, map, row or xid.
+// The event that a letter stands for: begin, install, uninstall, create, drop, map, row, update, erase or xid; a capital letter for a
+// map without a key, or a place that is not 0.
 fn event_of(letter: u8) -> (u8, &'static [u8]) {
     match letter {
         b'b' => (2, &[1]),
         b'i' => (2, &INSTALL),
         b'c' => (2, &CREATE),
         b'm' => (19, &MAP),
+        b'M' => (19, &MAP_WITHOUT_KEY),
+        b'n' => (2, &UNINSTALL),
+        b'd' => (2, &DROP),
         b'r' => (30, &ROW),
+        b'u' => (31, &UPDATE),
+        b'U' => (31, &UPDATE_AT_1),
+        b'e' => (32, &DELETE),
+        b'E' => (32, &DELETE_AT_256),
         _ => (16, &XID),
     }
 }
@@ -81,6 +114,18 @@ fn transactions_are_read_and_written(rt: HostRuntime) -> Result<(), Fail> {
         ("bcx", Some(100)),
         ("bmrx", Some(125)),
         ("bmrrx", Some(159)),
+        ("bnx", Some(87)),
+        ("bdx", Some(81)),
+        ("bmux", Some(138)),
+        ("bmex", Some(129)),
+        ("bmrux", Some(172)),
+        ("bMUx", Some(138)),
+        ("bMEx", Some(129)),
+        ("bmUx", None),
+        ("bmEx", None),
+        ("bux", None),
+        ("bmrmux", None),
+        ("bmumex", None),
         ("bmrmrx", None),
         ("bmrmx", None),
         ("brx", None),
@@ -121,6 +166,9 @@ fn lists_of_changes_are_read_and_written(rt: HostRuntime) -> Result<(), Fail> {
     assert_eq!(rt; items_len(&changes), len as u64);
     let mut other = [1u8, 0, 0, 0, 2].to_vec(rt.alloc())?;
     other.extend_from_slice(&INSTALL)?;
+    assert!(rt; items_of(rt.alloc(), other.as_slice())?.is_none());
+    other.truncate(5);
+    other.extend_from_slice(&UNINSTALL)?;
     assert!(rt; items_of(rt.alloc(), other.as_slice())?.is_none());
     Ok(())
 }

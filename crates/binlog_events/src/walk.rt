@@ -4,7 +4,8 @@
 ghost use Rattle.std.specs.Prelude.{◌≡◌, ◌++◌, Some, None, OnOk};
 ghost use Rattle.std.specs.Option.{option_to_list};
 ghost use Rattle.row_format.specs.Reading.{Gives};
-ghost use Rattle.binlog_events.specs.Walking.{item_of, create_at, install_at, query_at, may_follow, query_item, map_item, row_item, item_at, may_end};
+ghost use Rattle.binlog_events.specs.Walking.{item_of, create_at, named_at, query_at, may_follow, query_item, map_item, is_place, place_at, insert_at, update_at, delete_at, row_change_at, row_item, item_at, may_end};
+ghost use Rattle.row_format.specs.declared.change.Change.TheVariants.{Install, Uninstall, Drop};
 ghost use Rattle.binlog_events.specs.declared.walk.Before.TheVariants.{RowOf};
 
 use row_format::{Change, TableMap, Unread, take_byte, take_map, take_name, take_row, take_schema};
@@ -46,13 +47,31 @@ fn take_create(alloc: Global, bytes: &[u8]) -> Result<(Change, &[u8]), Unread>
     ))
 }
 
+// A Drop behind its first byte.
+#[tactic(auto, unfolding(crate::specs::Walking::named_at))]
+fn take_drop(alloc: Global, bytes: &[u8]) -> Result<(Change, &[u8]), Unread>
+    ensures { Gives (λ x. (x.0, x.1.now)) result (named_at Drop bytes.now) }
+{
+    let (table, rest) = take_name(alloc, bytes)?;
+    Ok((Change::Drop { table }, rest))
+}
+
 // An Install behind its first byte.
-#[tactic(auto, unfolding(crate::specs::Walking::install_at))]
+#[tactic(auto, unfolding(crate::specs::Walking::named_at))]
 fn take_install(alloc: Global, bytes: &[u8]) -> Result<(Change, &[u8]), Unread>
-    ensures { Gives (λ x. (x.0, x.1.now)) result (install_at bytes.now) }
+    ensures { Gives (λ x. (x.0, x.1.now)) result (named_at Install bytes.now) }
 {
     let (name, rest) = take_name(alloc, bytes)?;
     Ok((Change::Install { name }, rest))
+}
+
+// An Uninstall behind its first byte.
+#[tactic(auto, unfolding(crate::specs::Walking::named_at))]
+fn take_uninstall(alloc: Global, bytes: &[u8]) -> Result<(Change, &[u8]), Unread>
+    ensures { Gives (λ x. (x.0, x.1.now)) result (named_at Uninstall bytes.now) }
+{
+    let (name, rest) = take_name(alloc, bytes)?;
+    Ok((Change::Uninstall { name }, rest))
 }
 
 // The change of a QUERY.
@@ -63,7 +82,9 @@ fn take_query(alloc: Global, bytes: &[u8]) -> Result<(Change, &[u8]), Unread>
     let (byte, rest) = take_byte(bytes)?;
     match byte {
         2 => take_create(alloc, rest),
+        3 => take_drop(alloc, rest),
         4 => take_install(alloc, rest),
+        5 => take_uninstall(alloc, rest),
         _ => Err(Unread::Absent),
     }
 }
@@ -115,29 +136,120 @@ fn take_map_item(alloc: Global, before: Before, bytes: &[u8]) -> Result<(Told, &
     }
 }
 
-// A row behind its table map.
-fn take_row_of(alloc: Global, map: TableMap, bytes: &[u8]) -> Result<(Told, &[u8]), Unread>
-    ensures { Gives (λ x. (item_of x.0, x.1.now)) result (row_item (RowOf map) bytes.now) }
+// Whether a place may be told in a table with this key column, or with none.
+fn is_place(key: Option<u8>, place: u32) -> bool
+    ensures { result ≡ is_place key place }
+{
+    match key {
+        None => true,
+        Some(_) => place == 0,
+    }
+}
+
+// The place of a row in a table with this key column, or with none.
+#[tactic(auto, unfolding(crate::specs::Walking::place_at, row_format::specs::Reading::piece_at))]
+fn take_place(key: Option<u8>, bytes: &[u8]) -> Result<(u32, &[u8]), Unread>
+    ensures { Gives (λ x. (x.0, x.1.now)) result (place_at key bytes.now) }
+{
+    let Some((place, rest)) = bytes.split_first_chunk::<4>() else {
+        return Err(Unread::Absent);
+    };
+    let place = u32::from_le_bytes(*place);
+    if is_place(key, place) {
+        Ok((place, rest))
+    } else {
+        Err(Unread::Absent)
+    }
+}
+
+// An Insert into the table of this map.
+#[tactic(auto, unfolding(crate::specs::Walking::insert_at))]
+fn take_insert(alloc: Global, map: TableMap, bytes: &[u8]) -> Result<(Change, &[u8]), Unread>
+    ensures { Gives (λ x. (x.0, x.1.now)) result (insert_at map bytes.now) }
 {
     let (row, rest) = take_row(alloc, &map.schema, bytes)?;
+    Ok((Change::Insert { map, row }, rest))
+}
+
+// An Update of the table of this map.
+#[tactic(auto, unfolding(crate::specs::Walking::update_at))]
+fn take_update(alloc: Global, map: TableMap, bytes: &[u8]) -> Result<(Change, &[u8]), Unread>
+    ensures { Gives (λ x. (x.0, x.1.now)) result (update_at map bytes.now) }
+{
+    let (place, rest) = take_place(map.schema.key, bytes)?;
+    let (before, rest) = take_row(alloc, &map.schema, rest)?;
+    let (after, rest) = take_row(alloc, &map.schema, rest)?;
+    Ok((
+        Change::Update {
+            map,
+            place,
+            before,
+            after,
+        },
+        rest,
+    ))
+}
+
+// A Delete from the table of this map.
+#[tactic(auto, unfolding(crate::specs::Walking::delete_at))]
+fn take_delete(alloc: Global, map: TableMap, bytes: &[u8]) -> Result<(Change, &[u8]), Unread>
+    ensures { Gives (λ x. (x.0, x.1.now)) result (delete_at map bytes.now) }
+{
+    let (place, rest) = take_place(map.schema.key, bytes)?;
+    let (before, rest) = take_row(alloc, &map.schema, rest)?;
+    Ok((Change::Delete { map, place, before }, rest))
+}
+
+// A row change by its type byte.
+fn take_row_change(
+    alloc: Global,
+    map: TableMap,
+    kind: u8,
+    bytes: &[u8],
+) -> Result<(Change, &[u8]), Unread>
+    ensures { Gives (λ x. (x.0, x.1.now)) result (row_change_at kind map bytes.now) }
+{
+    match kind {
+        30 => take_insert(alloc, map, bytes),
+        31 => take_update(alloc, map, bytes),
+        32 => take_delete(alloc, map, bytes),
+        _ => Err(Unread::Absent),
+    }
+}
+
+// A row change of the table of this map, which stood before it.
+fn take_row_of(
+    alloc: Global,
+    map: TableMap,
+    kind: u8,
+    bytes: &[u8],
+) -> Result<(Told, &[u8]), Unread>
+    ensures { Gives (λ x. (item_of x.0, x.1.now)) result (row_item (RowOf map) kind bytes.now) }
+{
     let copy = map.copy(alloc)?;
+    let (change, rest) = take_row_change(alloc, copy, kind, bytes)?;
     Ok((
         Told {
-            change: Some(Change::Insert { map: copy, row }),
+            change: Some(change),
             before: Before::RowOf(map),
         },
         rest,
     ))
 }
 
-// A row, behind a table map or a row change.
-fn take_row_item(alloc: Global, before: Before, bytes: &[u8]) -> Result<(Told, &[u8]), Unread>
-    ensures { Gives (λ x. (item_of x.0, x.1.now)) result (row_item before bytes.now) }
+// A row change, behind a table map or a row change.
+fn take_row_item(
+    alloc: Global,
+    before: Before,
+    kind: u8,
+    bytes: &[u8],
+) -> Result<(Told, &[u8]), Unread>
+    ensures { Gives (λ x. (item_of x.0, x.1.now)) result (row_item before kind bytes.now) }
 {
     match before {
         Before::Other => Err(Unread::Absent),
-        Before::RowOf(map) => take_row_of(alloc, map, bytes),
-        Before::MapOf(map) => take_row_of(alloc, map, bytes),
+        Before::RowOf(map) => take_row_of(alloc, map, kind, bytes),
+        Before::MapOf(map) => take_row_of(alloc, map, kind, bytes),
     }
 }
 
@@ -154,8 +266,7 @@ pub(crate) fn take_item(
     match kind {
         2 => take_query_item(alloc, before, bytes),
         19 => take_map_item(alloc, before, bytes),
-        30 => take_row_item(alloc, before, bytes),
-        _ => Err(Unread::Absent),
+        _ => take_row_item(alloc, before, kind, bytes),
     }
 }
 

@@ -1,8 +1,7 @@
 -- The bytes of live tables, what a flag allows, and whether changes of two transactions meet. (This project.)
-use Rattle.std.specs.Prelude.{◌≡◌, ◌≤◌, ◌+◌, ℕ, ◌==◌, List, [], length, map, Option, Some, None, Bool, true, false, not, ◌&&◌, is_some, is_none, sum_by, slice_get, IsTrue}
+use Rattle.std.specs.Prelude.{◌≡◌, ◌≤◌, ◌+◌, ℕ, ◌==◌, List, [], ◌∷◌, ◌++◌, length, map, Option, Some, None, Bool, true, false, not, ◌&&◌, is_some, is_none, sum_by, slice_get, IsTrue}
 use Rattle.std.specs.Str.{bytes_eq}
 use Rattle.std.specs.List.{list_all, list_any}
-use Rattle.std.specs.Option.{option_to_list}
 use Rattle.sql_value.specs.declared.value.Value.{Value}
 use Rattle.sql_value.specs.declared.value.Value.TheVariants.{Int, Text}
 use Rattle.sql_value.specs.Values.{same_value}
@@ -11,8 +10,8 @@ use Rattle.row_format.specs.declared.schema.Kind.TheVariants.{BigInt, VarChar}
 use Rattle.row_format.specs.declared.schema.Column.{Column}
 use Rattle.row_format.specs.declared.schema.Schema.{Schema}
 use Rattle.row_format.specs.declared.change.Change.{Change}
-use Rattle.row_format.specs.declared.change.Change.TheVariants.{Install, Create, Insert}
-use Rattle.row_format.specs.Rows.{key_value, IsRow}
+use Rattle.row_format.specs.declared.change.Change.TheVariants.{Install, Uninstall, Create, Drop, Insert, Update, Delete}
+use Rattle.row_format.specs.Rows.{IsRow}
 use Rattle.row_format.specs.Spelling.{counted, schema_spelling, row_image}
 use Rattle.log_tables.specs.declared.table.Table.{Table}
 use Rattle.log_tables.specs.Keys.{key_in, row_with}
@@ -83,12 +82,24 @@ is_key_of schema value = is_of_key schema.columns schema.key value
 -- the table that a change names, if it is one on tables
 abbrev pub table_of : Change → Option (List ℕ)
 table_of (Install name) = None
+table_of (Uninstall name) = None
 table_of (Create table engine schema) = Some table
+table_of (Drop table) = Some table
 table_of (Insert map row) = Some map.table
+table_of (Update map place before after) = Some map.table
+table_of (Delete map place before) = Some map.table
 
--- the keys that a change names: none where its table has no key, or where it makes a table
+-- the key of a row of a table with this key column, Null where it has no such value; none where the table has no key
+abbrev pub keys_in : Option ℕ → List Value → List Value
+keys_in None row = []
+keys_in (Some column) row = key_in column row ∷ []
+
+-- The keys that a change names: of an Insert that of its row, of an Update those of both its rows, of a Delete that of the row before. There
+-- are none where its table has no key, or where it makes or drops a table.
 abbrev pub keys_of : Change → List Value
-keys_of (Insert map row) = option_to_list (key_value map.schema row)
+keys_of (Insert map row) = keys_in map.schema.key row
+keys_of (Update map place before after) = keys_in map.schema.key before ++ keys_in map.schema.key after
+keys_of (Delete map place before) = keys_in map.schema.key before
 keys_of _ = []
 
 -- two names that were found are one

@@ -16,9 +16,10 @@ use Rattle.engine_api.specs.Calls.{AnswersAlone, MayComeAlone}
 use Rattle.engine_api.specs.declared.fault.EngineFault.{EngineFault}
 use Rattle.engine_api.specs.declared.fault.EngineFault.TheVariants.{Code as code, Device, NotAVolume, Memory}
 use Rattle.live_tables.specs.Bytes.{capped}
-use Rattle.live_tables.specs.Folds.{change_bytes}
+use Rattle.live_tables.specs.Folds.{change_bytes, grows}
 use Rattle.live_tables.specs.Opens.{AreDistinct}
-use Rattle.live_tables.specs.Live.{state_with, state_of, AreSound, AreCounted}
+use Rattle.live_tables.specs.Live.{state_with, state_of, most_bytes, AreSound, AreCounted}
+use Rattle.live_tables.proofs.MadeLemmas.{all_made}
 use Rattle.live_tables.proofs.FoldLemmas.{bytes_after}
 use Rattle.live_tables.proofs.OpenLaws.{changes_last, bytes_parted, lengths_parted}
 use Rattle.live_tables.proofs.SoundLaws.{sound_changed, shares_changed}
@@ -49,20 +50,21 @@ none_of (Some x) h = cc
 
 -- All is sound behind it.
 pub sound_more : (txn : ℕ) (c : Change) (ts : List Table) (done : List Change) (left : List Prepared) (ps : List Pending) (last : ℕ) (state : EngineState) → AreSound ts done left ps
-    → state_of ts done left ps last ≡ state → applies c (live_tables state) ≡ true → is_under txn state ≡ false → IsApart txn c state → AreSound ts done left (one_more txn c ps)
-sound_more txn c ts done left ps last state sound is fit unprepared apart =
+    → state_of ts done left ps last ≡ state → applies c (live_tables state) ≡ true → grows c ≡ true → is_under txn state ≡ false → IsApart txn c state → AreSound ts done left (one_more txn c ps)
+sound_more txn c ts done left ps last state sound is fit grow unprepared apart =
     let here = state_of ts done left ps last in
     let fit_here : applies c (live_tables here) ≡ true = subst (λ s. applies c (live_tables s) ≡ true) (sym is) fit in
     let free : is_under txn here ≡ false = subst (λ s. is_under txn s ≡ false) (sym is) unprepared in
     let apart_here : IsApart txn c here = subst (IsApart txn c) (sym is) apart in
-    sound_changed txn c ts done left ps sound (none_of (xid_by txn ps) free) fit_here apart_here.pending apart_here.prepared
+    sound_changed txn c ts done left ps sound (none_of (xid_by txn ps) free) fit_here grow apart_here.pending apart_here.prepared
 
--- The live bytes are those before, and its own.
+-- The live bytes are those before, and its own, where nothing is done beside the tables.
 bytes_are : (txn : ℕ) (c : Change) (ts : List Table) (done : List Change) (left : List Prepared) (ps : List Pending) → AreSound ts done left ps → AreSound ts done left (one_more txn c ps)
-    → live_bytes (after_changes (changes_in (one_more txn c ps)) (after_changes done ts)) ≡ live_bytes (after_changes done ts) + sum_by change_bytes (changes_in ps) + change_bytes c
-bytes_are txn c ts done left ps sound more =
-    let all = bytes_after (changes_in (one_more txn c ps)) (after_changes done ts) more.open_fit in
-    omega (arith, all, bytes_more txn c ps sound.distinct)
+    → done ≡ [] → live_bytes (after_changes (changes_in (one_more txn c ps)) (after_changes done ts)) ≡ live_bytes ts + sum_by change_bytes (changes_in ps) + change_bytes c
+bytes_are txn c ts done left ps sound next settled =
+    let all = bytes_after (changes_in (one_more txn c ps)) (after_changes done ts) next.grow (all_made done ts sound.made) next.open_fit in
+    let base = ap (λ l. live_bytes (after_changes l ts)) settled in
+    omega (arith, all, base, bytes_more txn c ps sound.distinct)
 
 -- the state with one change more is the next one
 pub state_more : (txn : ℕ) (c : Change) (ts : List Table) (done : List Change) (left : List Prepared) (ps : List Pending) (last : ℕ) → AreSound ts done left ps → xid_by txn ps ≡ None
@@ -75,35 +77,38 @@ state_more txn c ts done left ps last sound free =
     state_as ss = state_with (record { tables = after_changes done ts; prepared = left ++ ss; last = last }) (one_more txn c ps)
 
 -- Where the count is within the limit, the bytes are.
-pub room_left : (txn : ℕ) (c : Change) (ts : List Table) (done : List Change) (left : List Prepared) (ps : List Pending) (last committed opened waiting more : ℕ)
-    → AreSound ts done left ps → AreSound ts done left (one_more txn c ps) → AreCounted ts done left ps committed opened waiting → more ≡ capped (change_bytes c)
+pub room_left : (txn : ℕ) (c : Change) (ts : List Table) (done : List Change) (left : List Prepared) (ps : List Pending) (last committed opened waits waiting more : ℕ)
+    → AreSound ts done left ps → AreSound ts done left (one_more txn c ps) → AreCounted ts done left ps committed opened waits waiting → done ≡ [] → more ≡ capped (change_bytes c)
     → true ≡ nat_le (committed + opened + more) live_limit → HasRoom (with_change txn c (state_of ts done left ps last))
-room_left txn c ts done left ps last committed opened waiting more sound next counted more_is within =
+room_left txn c ts done left ps last committed opened waits waiting more sound next counted settled more_is within =
     let le : committed + opened + more ≤ live_limit = leb-true (committed + opened + more) live_limit (sym within) in
-    omega (arith, bytes_are txn c ts done left ps sound next, counted.committed_is, counted.opened_is, more_is, le)
+    omega (arith, bytes_are txn c ts done left ps sound next settled, counted.committed_is, counted.opened_is, more_is, le)
 
 -- Where it is not, they are not.
-pub no_room : (txn : ℕ) (c : Change) (ts : List Table) (done : List Change) (left : List Prepared) (ps : List Pending) (last committed opened waiting more : ℕ)
-    → AreSound ts done left ps → AreSound ts done left (one_more txn c ps) → AreCounted ts done left ps committed opened waiting → more ≡ capped (change_bytes c)
+pub no_room : (txn : ℕ) (c : Change) (ts : List Table) (done : List Change) (left : List Prepared) (ps : List Pending) (last committed opened waits waiting more : ℕ)
+    → AreSound ts done left ps → AreSound ts done left (one_more txn c ps) → AreCounted ts done left ps committed opened waits waiting → done ≡ [] → more ≡ capped (change_bytes c)
     → false ≡ nat_le (committed + opened + more) live_limit → HasRoom (with_change txn c (state_of ts done left ps last)) → ⊥
-no_room txn c ts done left ps last committed opened waiting more sound next counted more_is beyond has =
+no_room txn c ts done left ps last committed opened waits waiting more sound next counted settled more_is beyond has =
     elim (leb_tells (committed + opened + more) live_limit) [
       | inl there ↦ absurd (no_yes (beyond ∙ there.0))
-      | inr over ↦ absurd (omega (arith, bytes_are txn c ts done left ps sound next, counted.committed_is, counted.opened_is, more_is, over.1, has))
+      | inr over ↦ absurd (omega (arith, bytes_are txn c ts done left ps sound next settled, counted.committed_is, counted.opened_is, more_is, over.1, has))
     ]
   where
     no_yes : false ≡ true → ⊥
     no_yes q = cc
 
 -- The counts behind it.
-pub counted_more : (txn : ℕ) (c : Change) (ts : List Table) (done : List Change) (left : List Prepared) (ps : List Pending) (committed opened waiting more : ℕ)
-    → AreSound ts done left ps → AreCounted ts done left ps committed opened waiting → more ≡ capped (change_bytes c)
-    → true ≡ nat_le (committed + opened + more) live_limit → AreCounted ts done left (one_more txn c ps) committed (opened + more) (waiting + 1)
-counted_more txn c ts done left ps committed opened waiting more sound counted more_is within = record {
+pub counted_more : (txn : ℕ) (c : Change) (ts : List Table) (done : List Change) (left : List Prepared) (ps : List Pending) (committed opened waits waiting more : ℕ)
+    → AreSound ts done left ps → AreCounted ts done left ps committed opened waits waiting → more ≡ capped (change_bytes c)
+    → true ≡ nat_le (committed + opened + more) live_limit → true ≡ nat_le (committed + opened + waits + more) most_bytes
+    → AreCounted ts done left (one_more txn c ps) committed (opened + more) waits (waiting + 1)
+counted_more txn c ts done left ps committed opened waits waiting more sound counted more_is within countable = record {
   committed_is = counted.committed_is;
   opened_is =
       let le : committed + opened + more ≤ live_limit = leb-true (committed + opened + more) live_limit (sym within) in
       omega (arith, bytes_more txn c ps sound.distinct, counted.opened_is, more_is, le);
+  waits_is = counted.waits_is;
+  small = let le : committed + opened + waits + more ≤ most_bytes = leb-true (committed + opened + waits + more) most_bytes (sym countable) in omega (arith, le);
   waiting_is = omega (arith, length_more txn c ps sound.distinct, counted.waiting_is);
 }
 

@@ -19,7 +19,7 @@ use Rattle.live_tables.proofs.NameLemmas.{no}
 use Rattle.live_tables.proofs.MeetLemmas.{or_false}
 use Rattle.live_tables.proofs.OpenLemmas.{found_passes}
 use Rattle.live_tables.proofs.OpenLaws.{prepared_append, xid_out, xid_kept, without_unprepared}
-use Rattle.live_tables.proofs.SoundLaws.{sound_left_committed, sound_same, found_left, without_left, shares_under}
+use Rattle.live_tables.proofs.SoundLaws.{sound_left_committed, found_left, without_left, shares_under}
 
 removed_first : (xid : ℕ) (xs : List Prepared) (i : ℕ) (d : Prepared) → HaveOwnXids xs → i < length xs → has_xid xid (get_or xs i d) ≡ true
     → ((k : ℕ) → k < i → has_xid xid (get_or xs k d) ≡ false) → remove xs i ≡ without_xid xid xs
@@ -57,13 +57,13 @@ some_in_left xid last ts done left ps s is left_there none =
     no (subst (λ (o : Option Prepared). IsTrue (is_some o)) nothing left_there.0)
 
 -- The state after what was left under an xid is committed.
-pub state_left_committed : (xid number last : ℕ) (it : Prepared) (ts us : List Table) (done more : List Change) (left : List Prepared) (ps : List Pending) (s : EngineState)
-    → state_of ts done left ps last ≡ s → list_any (has_under xid) s.pending ≡ false → prepared_with xid left ≡ Some it → after_changes more us ≡ after_changes (done ++ it.changes) ts
-    → state_of us more (without_xid xid left) ps number ≡ with_gist (after_commit it number s.gist) s
-state_left_committed xid number last it ts us done more left ps s is free found same =
+pub state_left_committed : (xid number last : ℕ) (it : Prepared) (ts : List Table) (done : List Change) (left : List Prepared) (ps : List Pending) (s : EngineState)
+    → state_of ts done left ps last ≡ s → list_any (has_under xid) s.pending ≡ false → prepared_with xid left ≡ Some it
+    → state_of ts (done ++ it.changes) (without_xid xid left) ps number ≡ with_gist (after_commit it number s.gist) s
+state_left_committed xid number last it ts done left ps s is free found =
     let at : it.xid ≡ xid = eqb-true it.xid xid (found_passes (has_xid xid) left it found) in
     let base = after_changes done ts in
-    ap (λ l. state_with (record { tables = l; prepared = without_xid xid left ++ shares ps; last = number }) ps) (same ∙ after_changes-append done it.changes ts)
+    ap (λ l. state_with (record { tables = l; prepared = without_xid xid left ++ shares ps; last = number }) ps) (after_changes-append done it.changes ts)
     ∙ ap (λ l. state_with (record { tables = after_changes it.changes base; prepared = l; last = number }) ps)
     (sym (without_left xid left ps (ap (λ (x : EngineState). list_any (has_under xid) x.pending) is ∙ free)))
     ∙ ap (λ n. state_with (record { tables = after_changes it.changes base; prepared = without_xid n (left ++ shares ps); last = number }) ps) (sym at)
@@ -95,22 +95,21 @@ fits_in_left xid last it ts done left ps s is free found fits =
 inner : {x y : Prepared} → Some x ≡ Some y → x ≡ y
 inner q = cc
 
--- After what was left under an xid came behind what was done, and some of that into the tables, all is as it should be.
-pub left_done : (xid : ℕ) (it : Prepared) (ts us : List Table) (done behind more : List Change) (left rest : List Prepared) (ps : List Pending) → AreSound ts done left ps
-    → prepared_with xid left ≡ Some it → all_apply it.changes (after_changes done ts) ≡ true → behind ≡ done ++ it.changes → rest ≡ without_xid xid left
-    → after_changes more us ≡ after_changes behind ts → (all_apply behind ts ≡ true → all_apply more us ≡ true) → AreSound us more rest ps
-left_done xid it ts us done behind more left rest ps s found fits appended taken same fit =
+-- After what was left under an xid came behind what was done, all is as it should be.
+pub left_done : (xid : ℕ) (it : Prepared) (ts : List Table) (done behind : List Change) (left rest : List Prepared) (ps : List Pending) → AreSound ts done left ps
+    → prepared_with xid left ≡ Some it → all_apply it.changes (after_changes done ts) ≡ true → behind ≡ done ++ it.changes → rest ≡ without_xid xid left → AreSound ts behind rest ps
+left_done xid it ts done behind left rest ps s found fits appended taken =
     let one = sound_left_committed xid it ts done left ps s found fits in
-    let all = subst (λ l. AreSound ts behind l ps) (sym taken) (subst (λ l. AreSound ts l (without_xid xid left) ps) (sym appended) one) in
-    sound_same ts us behind more rest ps all (fit all.done_fit) same
+    subst (λ l. AreSound ts behind l ps) (sym taken) (subst (λ l. AreSound ts l (without_xid xid left) ps) (sym appended) one)
 
 -- And the state is the one after the commit.
-pub left_done_state : (xid number last : ℕ) (it p : Prepared) (ts us : List Table) (done behind more : List Change) (left rest : List Prepared) (ps : List Pending) (s : EngineState)
+pub left_done_state : (xid number last : ℕ) (it p : Prepared) (ts : List Table) (done behind : List Change) (left rest : List Prepared) (ps : List Pending) (s : EngineState)
     → state_of ts done left ps last ≡ s → list_any (has_under xid) s.pending ≡ false → prepared_with xid left ≡ Some it → behind ≡ done ++ it.changes → rest ≡ without_xid xid left
-    → after_changes more us ≡ after_changes behind ts → prepared_with xid s.gist.prepared ≡ Some p → state_of us more rest ps number ≡ with_gist (after_commit p number s.gist) s
-left_done_state xid number last it p ts us done behind more left rest ps s is free found appended taken same asked =
-    ap (λ l. state_of us more l ps number) taken
-    ∙ state_left_committed xid number last it ts us done more left ps s is free found (same ∙ ap (λ l. after_changes l ts) appended)
+    → prepared_with xid s.gist.prepared ≡ Some p → state_of ts behind rest ps number ≡ with_gist (after_commit p number s.gist) s
+left_done_state xid number last it p ts done behind left rest ps s is free found appended taken asked =
+    ap (λ l. state_of ts behind l ps number) taken
+    ∙ ap (λ l. state_of ts l (without_xid xid left) ps number) appended
+    ∙ state_left_committed xid number last it ts done left ps s is free found
     ∙ ap (λ (x : Prepared). with_gist (after_commit x number s.gist) s) (inner (sym (found_in_state xid last it ts done left ps s is free found) ∙ asked))
 
 -- Whether what was left can be committed, as it was told.

@@ -1,5 +1,8 @@
 pub mod NameLemmas
 pub mod RowLemmas
+pub mod EditLemmas
+pub mod MadeLemmas
+pub mod BackLemmas
 pub mod FoldLemmas
 pub mod MeetLemmas
 pub mod AgreeLemmas
@@ -20,3 +23,4 @@ pub mod AddLemmas
 pub mod FinishLemmas
 pub mod LoadLemmas
 pub mod StateLemmas
+pub mod ReplayLemmas

@@ -1,6 +1,9 @@
 -- What is read back: a change behind what is done, a row of a table that is there, and what is prepared.
-use Rattle.std.proofs.Common.{◌≡◌, ℕ, ◌+◌, List, [], ◌∷◌, ◌++◌, length, Option, Some, None, true, false, ◌&&◌, is_some, refl, sym, ap, subst, ◌∙◌, inl, inr, arith, length-append, sum_by}
+use Rattle.std.proofs.Common.{◌≡◌, ℕ, ◌+◌, ◌≤◌, List, [], ◌∷◌, ◌++◌, length, Option, Some, None, true, false, ◌&&◌, is_some, refl, sym, ap, subst, ◌∙◌, inl, inr, arith, length-append, sum_by}
+use Rattle.std.specs.Prelude.{nat_le}
+use Rattle.std.proofs.lemmas.Bool.{leb-true}
 use Rattle.std.proofs.lemmas.Grind.{flat_map-append}
+use Rattle.std.proofs.lemmas.List.Sums.{sum_by_push, sum_by-append}
 use Rattle.std.proofs.lemmas.List.{append-nil}
 use Rattle.sql_value.specs.declared.value.Value.{Value}
 use Rattle.row_format.specs.declared.change.TableMap.{TableMap}
@@ -17,17 +20,16 @@ use Rattle.log_tables.specs.Changes.{after_change, after_changes, all_apply, app
 use Rattle.log_tables.proofs.PartLemmas.{cases, cond_true, cond_false}
 use Rattle.log_tables.proofs.FoldLemmas.{after_changes-append}
 use Rattle.engine_api.specs.States.{EngineState, Pending, changes_in, begun_state}
-use Rattle.engine_api.specs.Live.{live_bytes, live_schema, schema_found}
+use Rattle.engine_api.specs.Live.{live_schema, schema_found}
 use Rattle.live_tables.specs.Bytes.{capped}
 use Rattle.live_tables.specs.Folds.{Apart, change_bytes}
 use Rattle.live_tables.specs.Opens.{changes_left, shares, HaveOwnXids}
 use Rattle.live_tables.specs.Stored.{with_row}
 use Rattle.live_tables.specs.Loads.{with_tables, CanTake}
-use Rattle.live_tables.specs.Live.{state_with, state_of, AreSound, AreCounted}
+use Rattle.live_tables.specs.Live.{state_with, state_of, most_bytes, AreSound, AreCounted}
 use Rattle.live_tables.proofs.FoldLemmas.{all_apply_append}
 use Rattle.live_tables.proofs.MeetLemmas.{or_false}
 use Rattle.live_tables.proofs.OpenLaws.{prepared_append, xids_last}
-use Rattle.live_tables.proofs.CountLemmas.{capped_more}
 use Rattle.live_tables.proofs.LeftLemmas.{own_left}
 
 -- The list with the change at its end applies.
@@ -36,15 +38,16 @@ one_fits c ts done fit one =
     all_apply_append done (c ∷ []) ts ∙ ap (λ b. b && all_apply (c ∷ []) (after_changes done ts)) fit ∙ ap (λ b. b && true) one
 
 -- All is sound behind a change that is read back.
-pub load_sound : (c : Change) (ts us : List Table) (done behind more : List Change) (left : List Prepared) (ps : List Pending) (last : ℕ) (s : EngineState) → AreSound ts done left ps
-    → state_of ts done left ps last ≡ s → s.pending ≡ [] → applies c s.gist.tables ≡ true → behind ≡ done ++ c ∷ [] → after_changes more us ≡ after_changes behind ts
-    → (all_apply behind ts ≡ true → all_apply more us ≡ true) → AreSound us more left ps
-load_sound c ts us done behind more left ps last s sound is idle fit appended same kept =
+pub load_sound : (c : Change) (ts : List Table) (done behind : List Change) (left : List Prepared) (ps : List Pending) (last : ℕ) (s : EngineState) → AreSound ts done left ps
+    → state_of ts done left ps last ≡ s → s.pending ≡ [] → applies c s.gist.tables ≡ true → behind ≡ done ++ c ∷ [] → AreSound ts behind left ps
+load_sound c ts done behind left ps last s sound is idle fit appended =
     let none : ps ≡ [] = ap (λ (x : EngineState). x.pending) is ∙ idle in
     let here : applies c (after_changes done ts) ≡ true = ap (λ (x : EngineState). applies c x.gist.tables) is ∙ fit in
     record {
-      done_fit = kept (ap (λ l. all_apply l ts) appended ∙ one_fits c ts done sound.done_fit here);
-      open_fit = subst (λ (l : List Pending). all_apply (changes_in l) (after_changes more us) ≡ true) (sym none) refl;
+      made = sound.made;
+      done_fit = ap (λ l. all_apply l ts) appended ∙ one_fits c ts done sound.done_fit here;
+      open_fit = subst (λ (l : List Pending). all_apply (changes_in l) (after_changes behind ts) ≡ true) (sym none) refl;
+      grow = sound.grow;
       apart = sound.apart;
       apart_left = sound.apart_left;
       distinct = sound.distinct;
@@ -52,27 +55,26 @@ load_sound c ts us done behind more left ps last s sound is idle fit appended sa
     }
 
 -- The counts follow.
-pub load_counted : (c : Change) (ts us : List Table) (done behind more : List Change) (left : List Prepared) (ps : List Pending) (last : ℕ) (s : EngineState) (committed opened waiting add sum : ℕ)
-    → AreCounted ts done left ps committed opened waiting → state_of ts done left ps last ≡ s → applies c s.gist.tables ≡ true → add ≡ capped (change_bytes c) → sum ≡ capped (committed + add)
-    → behind ≡ done ++ c ∷ [] → after_changes more us ≡ after_changes behind ts → AreCounted us more left ps sum opened waiting
-load_counted c ts us done behind more left ps last s committed opened waiting add sum counted is fit own sums appended same =
-    let here : applies c (after_changes done ts) ≡ true = ap (λ (x : EngineState). applies c x.gist.tables) is ∙ fit in
-    let one : change_bytes c ≡ sum_by change_bytes (c ∷ []) = omega arith in
+pub load_counted : (c : Change) (ts : List Table) (done behind : List Change) (left : List Prepared) (ps : List Pending) (committed opened waits waiting add : ℕ)
+    → AreCounted ts done left ps committed opened waits waiting → add ≡ capped (change_bytes c) → true ≡ nat_le (committed + opened + waits + add) most_bytes → behind ≡ done ++ c ∷ []
+    → AreCounted ts behind left ps committed opened (waits + add) waiting
+load_counted c ts done behind left ps committed opened waits waiting add counted own countable appended =
+    let all = ap (sum_by change_bytes) appended ∙ sum_by_push change_bytes done c in
+    let le : committed + opened + waits + add ≤ most_bytes = leb-true (committed + opened + waits + add) most_bytes (sym countable) in
     record {
-      committed_is =
-          capped_more done (c ∷ []) ts committed add sum (ap (λ b. b && true) here) counted.committed_is (own ∙ ap capped one) sums
-          ∙ ap (λ l. capped (live_bytes l)) (sym (same ∙ ap (λ l. after_changes l ts) appended));
+      committed_is = counted.committed_is;
       opened_is = counted.opened_is;
+      waits_is = omega (arith, all, counted.waits_is, own, le);
+      small = omega (arith, le);
       waiting_is = counted.waiting_is;
     }
 
 -- The state is the one with the change among the committed.
-pub load_state : (c : Change) (ts us : List Table) (done behind more : List Change) (left : List Prepared) (ps : List Pending) (last : ℕ) (s : EngineState)
-    → state_of ts done left ps last ≡ s → s.pending ≡ [] → behind ≡ done ++ c ∷ [] → after_changes more us ≡ after_changes behind ts
-    → state_of us more left ps last ≡ begun_state (with_tables (after_change c s.gist.tables) s.gist)
-load_state c ts us done behind more left ps last s is idle appended same =
+pub load_state : (c : Change) (ts : List Table) (done behind : List Change) (left : List Prepared) (ps : List Pending) (last : ℕ) (s : EngineState)
+    → state_of ts done left ps last ≡ s → s.pending ≡ [] → behind ≡ done ++ c ∷ [] → state_of ts behind left ps last ≡ begun_state (with_tables (after_change c s.gist.tables) s.gist)
+load_state c ts done behind left ps last s is idle appended =
     let none : ps ≡ [] = ap (λ (x : EngineState). x.pending) is ∙ idle in
-    let tables : after_changes more us ≡ after_change c (after_changes done ts) = same ∙ ap (λ l. after_changes l ts) appended ∙ after_changes-append done (c ∷ []) ts in
+    let tables : after_changes behind ts ≡ after_change c (after_changes done ts) = ap (λ l. after_changes l ts) appended ∙ after_changes-append done (c ∷ []) ts in
     ap (λ l. state_with (record { tables = l; prepared = left ++ shares ps; last = last }) ps) tables
     ∙ ap (λ (l : List Pending). state_with (record { tables = after_change c (after_changes done ts); prepared = left ++ shares ps; last = last }) l) none
     ∙ ap (λ (x : EngineState). begun_state (with_tables (after_change c x.gist.tables) x.gist)) is
@@ -131,8 +133,10 @@ left_sound p ts done left ps last s sound is idle fresh =
     let free = (or_false (is_prepared p.xid left) (is_prepared p.xid (shares ps)) (sym (prepared_append p.xid left (shares ps)) ∙ here)).0 in
     let own = xids_last p left (own_left left (shares ps) sound.xids) free in
     record {
+      made = sound.made;
       done_fit = sound.done_fit;
       open_fit = sound.open_fit;
+      grow = sound.grow;
       apart = sound.apart;
       apart_left = subst (λ (l : List Pending). Apart (changes_in l) (changes_left (left ++ p ∷ []))) (sym none) tt;
       distinct = sound.distinct;
@@ -140,10 +144,22 @@ left_sound p ts done left ps last s sound is idle fresh =
     }
 
 -- So many changes more may be committed.
-pub left_counted : (p : Prepared) (ts : List Table) (done : List Change) (left : List Prepared) (ps : List Pending) (committed opened waiting now : ℕ) → AreCounted ts done left ps committed opened waiting
-    → now ≡ waiting + length p.changes → AreCounted ts done (left ++ p ∷ []) ps committed opened now
-left_counted p ts done left ps committed opened waiting now counted more =
-    let all = ap length (flat_map-append (λ (it : Prepared). it.changes) left (p ∷ [])) in
+pub left_counted : (p : Prepared) (ts : List Table) (done : List Change) (left : List Prepared) (ps : List Pending) (committed opened waits waiting now len : ℕ)
+    → AreCounted ts done left ps committed opened waits waiting → now ≡ waiting + length p.changes → len ≡ capped (sum_by change_bytes p.changes)
+    → true ≡ nat_le (committed + opened + waits + len) most_bytes → AreCounted ts done (left ++ p ∷ []) ps committed opened (waits + len) now
+left_counted p ts done left ps committed opened waits waiting now len counted more own countable =
+    let split = flat_map-append (λ (it : Prepared). it.changes) left (p ∷ []) in
+    let last : changes_left (p ∷ []) ≡ p.changes = append-nil p.changes in
+    let all = ap length split in
     let parts = length-append (changes_left left) (changes_left (p ∷ [])) in
-    let one : length (changes_left (p ∷ [])) ≡ length p.changes = ap length (append-nil p.changes) in
-    record { committed_is = counted.committed_is; opened_is = counted.opened_is; waiting_is = omega (arith, counted.waiting_is, all, parts, one, more) }
+    let one : length (changes_left (p ∷ [])) ≡ length p.changes = ap length last in
+    let bytes = ap (sum_by change_bytes) split ∙ sum_by-append change_bytes (changes_left left) (changes_left (p ∷ [])) in
+    let one_bytes = ap (sum_by change_bytes) last in
+    let le : committed + opened + waits + len ≤ most_bytes = leb-true (committed + opened + waits + len) most_bytes (sym countable) in
+    record {
+      committed_is = counted.committed_is;
+      opened_is = counted.opened_is;
+      waits_is = omega (arith, counted.waits_is, bytes, one_bytes, own, le);
+      small = omega (arith, le);
+      waiting_is = omega (arith, counted.waiting_is, all, parts, one, more);
+    }

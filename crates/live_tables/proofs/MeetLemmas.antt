@@ -1,7 +1,6 @@
 -- Whether two changes meet does not hang on their order.
-use Rattle.std.proofs.Common.{◌≡◌, ℕ, List, [], ◌∷◌, Option, Some, None, Bool, true, false, ◌&&◌, ◌||◌, refl, sym, ap, ◌∙◌}
+use Rattle.std.proofs.Common.{◌≡◌, ℕ, List, [], ◌∷◌, Option, Some, None, Bool, true, false, ◌&&◌, ◌||◌, refl, sym, ap, ◌∙◌, inl, inr, ◌⊎◌}
 use Rattle.std.specs.List.{list_any}
-use Rattle.std.specs.Option.{option_to_list}
 use Rattle.std.specs.Str.{bytes_eq}
 use Rattle.std.proofs.lemmas.Slice.Eq.{bytes_eq-Decides}
 use Rattle.sql_value.specs.declared.value.Value.{Value}
@@ -9,6 +8,7 @@ use Rattle.sql_value.specs.Values.{same_value}
 use Rattle.sql_value.proofs.SameLemmas.{same_value-true, same_value_refl}
 use Rattle.row_format.specs.declared.change.Change.{Change}
 use Rattle.engine_api.specs.Live.{meets, meets_any, table_of, keys_of, same_found, has_value, keys_meet}
+use Rattle.log_tables.proofs.PartLemmas.{cases}
 use Rattle.live_tables.specs.Folds.{Apart}
 use Rattle.live_tables.proofs.NameLemmas.{no}
 
@@ -18,7 +18,7 @@ both_ways true b f g = sym (f refl)
 both_ways false true f g = g refl
 both_ways false false f g = refl
 
-same_value_sym : (a b : Value) → same_value a b ≡ same_value b a
+pub same_value_sym : (a b : Value) → same_value a b ≡ same_value b a
 same_value_sym a b = both_ways (same_value a b) (same_value b a) (turn a b) (turn b a)
   where
     turn : (a b : Value) → same_value a b ≡ true → same_value b a ≡ true
@@ -75,20 +75,45 @@ pub keys_none : (xs : List Value) → keys_meet xs [] ≡ true
 keys_none [] = refl
 keys_none (x ∷ xs) = refl
 
--- Keys that do not meet are there, and differ.
-pub keys_apart : {P : Type 0} (k l : Option Value) → keys_meet (option_to_list k) (option_to_list l) ≡ false
-    → ((x y : Value) → k ≡ Some x → l ≡ Some y → same_value x y ≡ false → P) → P
-keys_apart None l h then = absurd (no (sym h))
-keys_apart (Some x) None h then = absurd (no (sym h))
-keys_apart (Some x) (Some y) h then = then x y refl refl (first (same_value x y) h)
-  where
-    first : (b : Bool) → ((b || false) || false) ≡ false → b ≡ false
-    first true h = h
-    first false h = refl
+-- keys that do not meet are there, and none is one of the others
+meets_lists : (ys xs : List Value) → keys_meet ys xs ≡ false → list_any (has_value xs) ys ≡ false
+meets_lists [] xs h = absurd (no (sym h))
+meets_lists (y ∷ ys) [] h = absurd (no (sym h))
+meets_lists (y ∷ ys) (x ∷ xs) h = h
 
 pub or_false : (a b : Bool) → (a || b) ≡ false → (a ≡ false) × (b ≡ false)
 or_false true b h = absurd (no (sym h))
 or_false false b h = (refl, h)
+
+-- one of the keys is this one
+abbrev pub holds : Value → List Value → Bool
+holds key keys = list_any (λ it. same_value it key) keys
+
+holds_is : (key : Value) (keys : List Value) → holds key keys ≡ has_value keys key
+holds_is key [] = refl
+holds_is key (x ∷ xs) = ap (λ b. b || holds key xs) (same_value_sym x key) ∙ ap (λ b. same_value key x || b) (holds_is key xs)
+
+yes_false : (b : Bool) → b ≡ true → b ≡ false → ⊥
+yes_false b p q = no (sym q ∙ p)
+
+apart_lists : (key : Value) (ys xs : List Value) → list_any (has_value xs) ys ≡ false → holds key xs ≡ true → holds key ys ≡ false
+apart_lists key [] xs h there = refl
+apart_lists key (y ∷ ys) xs h there =
+    let parts = or_false (has_value xs y) (list_any (has_value xs) ys) h in
+    first (same_value y key) refl parts.0 ∙ apart_lists key ys xs parts.1 there
+  where
+    first : (b : Bool) → same_value y key ≡ b → has_value xs y ≡ false → (same_value y key || holds key ys) ≡ holds key ys
+    first false e free = ap (λ b. b || holds key ys) e
+    first true e free =
+        let at : y ≡ key = same_value-true y key e in
+        absurd (yes_false (has_value xs y) (sym (holds_is y xs) ∙ ap (λ k. holds k xs) at ∙ there) free)
+
+-- No key stands in two lists that do not meet.
+pub keys_apart : (ys xs : List Value) → keys_meet ys xs ≡ false → (key : Value) → (holds key xs ≡ false) ⊎ (holds key ys ≡ false)
+keys_apart ys xs h key = elim (cases (holds key xs)) [
+  | inl there ↦ inr (apart_lists key ys xs (meets_lists ys xs h) there)
+  | inr free ↦ inl free
+]
 
 -- One change more at the head of the others.
 apart_head : (cs : List Change) (d : Change) (ds : List Change) → meets_any d cs ≡ false → Apart cs ds → Apart cs (d ∷ ds)

@@ -1,22 +1,19 @@
 -- What a change makes of what stands under one name, and when it applies.
-use Rattle.std.proofs.Common.{◌≡◌, ℕ, List, [], ◌∷◌, ◌++◌, Option, Some, None, Bool, true, false, cond, not, ◌&&◌, is_some, is_none, refl, sym, ap, subst, ◌∙◌, inl, inr}
+use Rattle.std.proofs.Common.{◌≡◌, ℕ, List, [], ◌∷◌, ◌++◌, Option, Some, None, Bool, true, false, cond, not, is_some, is_none, refl, sym, ap, subst, ◌∙◌, inl, inr}
 use Rattle.std.specs.Option.{option_or}
 use Rattle.std.specs.Str.{bytes_eq}
-use Rattle.std.proofs.lemmas.Bool.{and_parts}
 use Rattle.std.proofs.lemmas.List.Folds.{find-append}
 use Rattle.std.proofs.lemmas.Slice.Eq.{bytes_eq-Decides}
 use Rattle.sql_value.specs.declared.value.Value.{Value}
 use Rattle.row_format.specs.declared.schema.Schema.{Schema}
-use Rattle.row_format.specs.declared.change.TableMap.{TableMap}
 use Rattle.row_format.specs.declared.change.Change.{Change}
-use Rattle.row_format.specs.declared.change.Change.TheVariants.{Install, Create, Insert}
-use Rattle.row_format.specs.Schemas.{same_schema}
-use Rattle.log_tables.specs.Keys.{in_key_order, inserted}
+use Rattle.row_format.specs.declared.change.Change.TheVariants.{Install, Uninstall, Create, Drop, Insert, Update, Delete}
+use Rattle.log_tables.specs.Keys.{in_key_order}
 use Rattle.log_tables.specs.declared.table.Table.{Table}
-use Rattle.log_tables.specs.Tables.{is_named, table_named, at_table, new_table}
+use Rattle.log_tables.specs.Tables.{is_named, table_named, at_table, new_table, IsDictionary}
 use Rattle.log_tables.specs.Changes.{after_change, changed, with_rows, rows_after, takes, applies, names_table}
 use Rattle.log_tables.proofs.PartLemmas.{cases, cond_true, cond_false, table_named-other}
-use Rattle.engine_api.specs.Live.{is_key_taken}
+use Rattle.live_tables.specs.Folds.{rows_changed, found_after, fits}
 
 pub no : false ≡ true → ⊥
 no q = cc
@@ -24,22 +21,17 @@ no q = cc
 pub yes_no : (b : Bool) → b ≡ true → b ≡ false → ⊥
 yes_no b p q = no (sym q ∙ p)
 
--- what a row change makes of what was found
-abbrev pub rows_changed : Change → Option Table → Option Table
-rows_changed change None = None
-rows_changed change (Some table) = Some (with_rows table (rows_after change table))
+pub not_true : (b : Bool) → not b ≡ true → b ≡ false
+not_true true h = absurd (no h)
+not_true false h = refl
 
--- what a change makes of what was found under a name
-abbrev pub found_after : List ℕ → Change → Option Table → Option Table
-found_after name (Create table engine schema) found = cond (bytes_eq table name) (option_or found (Some (new_table table engine schema))) found
-found_after name (Insert map row) found = cond (bytes_eq map.table name) (rows_changed (Insert map row) found) found
-found_after name (Install engine) found = found
+pub none_when : {X : Type 0} (o : Option X) → is_some o ≡ false → o ≡ None
+none_when None h = refl
+none_when (Some x) h = absurd (no (sym h))
 
--- a change applies where this was found under its name
-abbrev pub fits : Change → Option Table → Bool
-fits (Create table engine schema) found = is_none found
-fits (Insert map row) found = takes (Insert map row) found
-fits (Install engine) found = true
+pub none_is : {X : Type 0} (o : Option X) → is_none o ≡ true → o ≡ None
+none_is None h = refl
+none_is (Some x) h = absurd (no h)
 
 -- an edit of the first table of a name is seen under it
 at_found : (n : List ℕ) (c : Change) (ts : List Table) → table_named n (at_table n (changed c) ts) ≡ rows_changed c (table_named n ts)
@@ -77,79 +69,67 @@ new_found n e s ts = elim (cases (is_some (table_named n ts))) [
     full None h = absurd (no h)
     full (Some t) h = refl
 
-own_after : (n : List ℕ) (c : Change) (ts : List Table) → names_table n c ≡ true → table_named n (after_change c ts) ≡ found_after n c (table_named n ts)
-own_after n (Create m e s) ts own =
-    let same : m ≡ n = (bytes_eq-Decides m n).0 own in
-    subst (λ k. table_named k (after_change (Create m e s) ts) ≡ option_or (table_named k ts) (Some (new_table m e s))) same (new_found m e s ts)
+-- a table that was taken out is not found, where no name stands twice
+gone_found : (n : List ℕ) (ts : List Table) → IsDictionary ts → table_named n (at_table n (λ _. []) ts) ≡ None
+gone_found n [] d = refl
+gone_found n (t ∷ ts) d = elim (cases (is_named n t)) [
+  | inl here ↦
+      ap (table_named n) (cond_true (is_named n t) ts (t ∷ at_table n (λ _. []) ts) here)
+      ∙ subst (λ m. table_named m ts ≡ None) ((bytes_eq-Decides t.definition.table n).0 here) (none_is (table_named t.definition.table ts) d.0)
+  | inr past ↦
+      ap (table_named n) (cond_false (is_named n t) ts (t ∷ at_table n (λ _. []) ts) past)
+      ∙ cond_false (is_named n t) (Some t) (table_named n (at_table n (λ _. []) ts)) past
+      ∙ gone_found n ts d.1
+]
+
+-- a row change is seen under the name of its table
+row_change_found : (n m : List ℕ) (c : Change) (ts : List Table) → bytes_eq m n ≡ true
+    → table_named n (at_table m (changed c) ts) ≡ cond (bytes_eq m n) (rows_changed c (table_named n ts)) (table_named n ts)
+row_change_found n m c ts own =
+    subst (λ k. table_named k (at_table m (changed c) ts) ≡ rows_changed c (table_named k ts)) ((bytes_eq-Decides m n).0 own) (at_found m c ts)
+    ∙ sym (cond_true (bytes_eq m n) (rows_changed c (table_named n ts)) (table_named n ts) own)
+
+own_after : (n : List ℕ) (c : Change) (ts : List Table) → IsDictionary ts → names_table n c ≡ true → table_named n (after_change c ts) ≡ found_after n c (table_named n ts)
+own_after n (Create m e s) ts d own =
+    subst (λ k. table_named k (after_change (Create m e s) ts) ≡ option_or (table_named k ts) (Some (new_table m e s))) ((bytes_eq-Decides m n).0 own) (new_found m e s ts)
     ∙ sym (cond_true (bytes_eq m n) (option_or (table_named n ts) (Some (new_table m e s))) (table_named n ts) own)
-own_after n (Insert map row) ts own =
-    let same : map.table ≡ n = (bytes_eq-Decides map.table n).0 own in
-    subst (λ k. table_named k (after_change (Insert map row) ts) ≡ rows_changed (Insert map row) (table_named k ts)) same (at_found map.table (Insert map row) ts)
-    ∙ sym (cond_true (bytes_eq map.table n) (rows_changed (Insert map row) (table_named n ts)) (table_named n ts) own)
-own_after n (Install e) ts own = absurd (no own)
+own_after n (Drop m) ts d own =
+    subst (λ k. table_named k (at_table m (λ _. []) ts) ≡ None) ((bytes_eq-Decides m n).0 own) (gone_found m ts d)
+    ∙ sym (cond_true (bytes_eq m n) None (table_named n ts) own)
+own_after n (Insert map row) ts d own = row_change_found n map.table (Insert map row) ts own
+own_after n (Update map place before after) ts d own = row_change_found n map.table (Update map place before after) ts own
+own_after n (Delete map place before) ts d own = row_change_found n map.table (Delete map place before) ts own
+own_after n (Install e) ts d own = absurd (no own)
+own_after n (Uninstall e) ts d own = absurd (no own)
 
 -- A change that does not name the table leaves what was found.
 pub found_stays : (n : List ℕ) (c : Change) (o : Option Table) → names_table n c ≡ false → found_after n c o ≡ o
 found_stays n (Create m e s) o other = cond_false (bytes_eq m n) (option_or o (Some (new_table m e s))) o other
+found_stays n (Drop m) o other = cond_false (bytes_eq m n) None o other
 found_stays n (Insert map row) o other = cond_false (bytes_eq map.table n) (rows_changed (Insert map row) o) o other
+found_stays n (Update map place before after) o other = cond_false (bytes_eq map.table n) (rows_changed (Update map place before after) o) o other
+found_stays n (Delete map place before) o other = cond_false (bytes_eq map.table n) (rows_changed (Delete map place before) o) o other
 found_stays n (Install e) o other = refl
+found_stays n (Uninstall e) o other = refl
 
 -- What stands under a name after a change is told by what stood there.
-pub named_after : (n : List ℕ) (c : Change) (ts : List Table) → table_named n (after_change c ts) ≡ found_after n c (table_named n ts)
-named_after n c ts = elim (cases (names_table n c)) [
-  | inl own ↦ own_after n c ts own
+pub named_after : (n : List ℕ) (c : Change) (ts : List Table) → IsDictionary ts → table_named n (after_change c ts) ≡ found_after n c (table_named n ts)
+named_after n c ts d = elim (cases (names_table n c)) [
+  | inl own ↦ own_after n c ts d own
   | inr other ↦ table_named-other n c ts other ∙ sym (found_stays n c (table_named n ts) other)
 ]
 
 -- And so is whether it applies.
 pub applies_found : (n : List ℕ) (c : Change) (ts : List Table) → names_table n c ≡ true → applies c ts ≡ fits c (table_named n ts)
 applies_found n (Create m e s) ts own = ap (λ k. is_none (table_named k ts)) ((bytes_eq-Decides m n).0 own)
+applies_found n (Drop m) ts own = ap (λ k. is_some (table_named k ts)) ((bytes_eq-Decides m n).0 own)
 applies_found n (Insert map row) ts own = ap (λ k. takes (Insert map row) (table_named k ts)) ((bytes_eq-Decides map.table n).0 own)
+applies_found n (Update map place before after) ts own = ap (λ k. takes (Update map place before after) (table_named k ts)) ((bytes_eq-Decides map.table n).0 own)
+applies_found n (Delete map place before) ts own = ap (λ k. takes (Delete map place before) (table_named k ts)) ((bytes_eq-Decides map.table n).0 own)
 applies_found n (Install e) ts own = absurd (no own)
+applies_found n (Uninstall e) ts own = absurd (no own)
 
 -- the rows with one more: in key order, or at the end
 abbrev pub placed : Option ℕ → List Value → List (List Value) → List (List Value)
 placed None row rows = rows ++ row ∷ []
 placed (Some column) row rows = in_key_order column row rows
-
--- the table with one row more
-abbrev pub grown : List Value → Table → Table
-grown row table = record { definition = table.definition; rows = placed table.definition.schema.key row table.rows }
-
-inserted_is : (key : Option ℕ) (row : List Value) (rows : List (List Value)) → inserted key row rows ≡ cond (is_key_taken key rows row) None (Some (placed key row rows))
-inserted_is None row rows = refl
-inserted_is (Some column) row rows = refl
-
-rows_after_is : (map : TableMap) (row : List Value) (t : Table)
-    → rows_after (Insert map row) t ≡ cond (same_schema map.schema t.definition.schema) (cond (is_key_taken t.definition.schema.key t.rows row) None (Some (placed t.definition.schema.key row t.rows))) None
-rows_after_is map row t = ap (λ o. cond (same_schema map.schema t.definition.schema) o None) (inserted_is t.definition.schema.key row t.rows)
-
--- An Insert applies to a table of its schema that has no row of its key.
-pub takes_is : (map : TableMap) (row : List Value) (t : Table) → takes (Insert map row) (Some t) ≡ (same_schema map.schema t.definition.schema && not (is_key_taken t.definition.schema.key t.rows row))
-takes_is map row t = ap is_some (rows_after_is map row t) ∙ tests (same_schema map.schema t.definition.schema) (is_key_taken t.definition.schema.key t.rows row)
-  where
-    tests : (a b : Bool) → is_some (cond a (cond b None (Some (placed t.definition.schema.key row t.rows))) None) ≡ (a && not b)
-    tests true true = refl
-    tests true false = refl
-    tests false true = refl
-    tests false false = refl
-
-pub not_true : (b : Bool) → not b ≡ true → b ≡ false
-not_true true h = absurd (no h)
-not_true false h = refl
-
--- what an Insert that applies tells of the table
-pub took : (map : TableMap) (row : List Value) (t : Table) → takes (Insert map row) (Some t) ≡ true
-    → (same_schema map.schema t.definition.schema ≡ true) × (is_key_taken t.definition.schema.key t.rows row ≡ false)
-took map row t h =
-    let both = and_parts (same_schema map.schema t.definition.schema) (not (is_key_taken t.definition.schema.key t.rows row)) (sym (takes_is map row t) ∙ h) in
-    (both.0, not_true (is_key_taken t.definition.schema.key t.rows row) both.1)
-
--- The table has one row more, then.
-pub grown_is : (map : TableMap) (row : List Value) (t : Table) → takes (Insert map row) (Some t) ≡ true → with_rows t (rows_after (Insert map row) t) ≡ grown row t
-grown_is map row t h =
-    let parts = took map row t h in
-    ap (with_rows t)
-    (rows_after_is map row t
-    ∙ cond_true (same_schema map.schema t.definition.schema) (cond (is_key_taken t.definition.schema.key t.rows row) None (Some (placed t.definition.schema.key row t.rows))) None parts.0
-    ∙ cond_false (is_key_taken t.definition.schema.key t.rows row) None (Some (placed t.definition.schema.key row t.rows)) parts.1)

@@ -19,12 +19,13 @@ use Rattle.log_tables.proofs.FoldLemmas.{after_changes-append}
 use Rattle.log_tables.proofs.PartLemmas.{cases, cond_true, cond_false}
 use Rattle.engine_api.specs.States.{Pending, is_by, pending_of, without_txn, changes_of, xid_of, changes_by, xid_by, changes_in}
 use Rattle.engine_api.specs.Live.{meets, meets_any}
-use Rattle.live_tables.specs.Folds.{Apart, Agree, change_bytes}
+use Rattle.live_tables.specs.Folds.{AreMade, AllGrow, Apart, Agree, change_bytes}
 use Rattle.live_tables.specs.Opens.{AreDistinct, AllApart, share_of, shares, HaveOwnXids}
 use Rattle.live_tables.proofs.NameLemmas.{yes_no}
 use Rattle.live_tables.proofs.FoldLemmas.{all_apply_append}
 use Rattle.live_tables.proofs.MeetLemmas.{or_false, apart_sym}
 use Rattle.live_tables.proofs.AgreeLemmas.{agree_itself, agree_trans, agree_all_apply, agree_changes}
+use Rattle.live_tables.proofs.MadeLemmas.{all_made}
 use Rattle.live_tables.proofs.ApartLemmas.{pass, drop_first}
 
 pub none_some : {X : Type 0} {x : X} → None ≡ Some x → ⊥
@@ -172,6 +173,36 @@ left_by txn (p ∷ ps) others h =
       | inr other ↦ subst (λ o. Apart (changes_of o) others) (sym (other_found txn p ps other)) (left_by txn ps others parts.1)
     ]
 
+-- Two lists take no bytes where each takes none.
+pub grow_append : (cs ds : List Change) → AllGrow cs → AllGrow ds → AllGrow (cs ++ ds)
+grow_append [] ds of_cs of_ds = of_ds
+grow_append (c ∷ cs) ds of_cs of_ds = (of_cs.0, grow_append cs ds of_cs.1 of_ds)
+
+grow_parts : (cs ds : List Change) → AllGrow (cs ++ ds) → AllGrow cs × AllGrow ds
+grow_parts [] ds grow = (tt, grow)
+grow_parts (c ∷ cs) ds grow = let rest = grow_parts cs ds grow.1 in ((grow.0, rest.0), rest.1)
+
+-- What is pending takes none without a transaction.
+pub grow_without : (txn : ℕ) (ps : List Pending) → AllGrow (changes_in ps) → AllGrow (changes_in (without_txn txn ps))
+grow_without txn [] grow = tt
+grow_without txn (p ∷ ps) grow =
+    let parts = grow_parts p.changes (changes_in ps) grow in
+    let rest = grow_without txn ps parts.1 in
+    elim (cases (is_by txn p)) [
+      | inl own ↦ subst (λ xs. AllGrow (changes_in xs)) (sym (own_out txn p ps own)) rest
+      | inr other ↦ subst (λ xs. AllGrow (changes_in xs)) (sym (other_kept txn p ps other)) (grow_append p.changes (changes_in (without_txn txn ps)) parts.0 rest)
+    ]
+
+-- And so of its own changes.
+pub grow_by : (txn : ℕ) (ps : List Pending) → AllGrow (changes_in ps) → AllGrow (changes_by txn ps)
+grow_by txn [] grow = tt
+grow_by txn (p ∷ ps) grow =
+    let parts = grow_parts p.changes (changes_in ps) grow in
+    elim (cases (is_by txn p)) [
+      | inl own ↦ subst (λ o. AllGrow (changes_of o)) (sym (own_found txn p ps own)) parts.0
+      | inr other ↦ subst (λ o. AllGrow (changes_of o)) (sym (other_found txn p ps other)) (grow_by txn ps parts.1)
+    ]
+
 -- Without a transaction all are apart.
 pub all_apart_without : (txn : ℕ) (ps : List Pending) → AllApart ps → AllApart (without_txn txn ps)
 all_apart_without txn [] h = tt
@@ -254,27 +285,29 @@ own_changes : (txn : ℕ) (ps : List Pending) (s : Stands txn ps) → changes_by
 own_changes txn ps s = ap changes_of s.found
 
 -- the second of three lists, apart from the first, goes before it
-forward : (xs ys zs : List Change) (ts : List Table) → Apart xs ys → all_apply (xs ++ (ys ++ zs)) ts ≡ true
+forward : (xs ys zs : List Change) (ts : List Table) → AreMade ts → Apart xs ys → all_apply (xs ++ (ys ++ zs)) ts ≡ true
     → (all_apply (ys ++ (xs ++ zs)) ts ≡ true) × Agree (after_changes (xs ++ (ys ++ zs)) ts) (after_changes (ys ++ (xs ++ zs)) ts)
-forward xs ys zs ts apart fit =
+forward xs ys zs ts made apart fit =
     let whole = sym (all_apply_append (xs ++ ys) zs ts) ∙ ap (λ all. all_apply all ts) (append_assoc xs ys zs) ∙ fit in
     let both = and_parts (all_apply (xs ++ ys) ts) (all_apply zs (after_changes (xs ++ ys) ts)) whole in
-    let turned = pass xs ys ts apart both.0 in
-    let behind = sym (agree_all_apply zs (after_changes (xs ++ ys) ts) (after_changes (ys ++ xs) ts) turned.1) ∙ both.1 in (
+    let of_xy = all_made (xs ++ ys) ts made in
+    let of_yx = all_made (ys ++ xs) ts made in
+    let turned = pass xs ys ts made apart both.0 in
+    let behind = sym (agree_all_apply zs (after_changes (xs ++ ys) ts) (after_changes (ys ++ xs) ts) of_xy of_yx turned.1) ∙ both.1 in (
       ap (λ all. all_apply all ts) (sym (append_assoc ys xs zs))
           ∙ all_apply_append (ys ++ xs) zs ts
           ∙ and_from (all_apply (ys ++ xs) ts) (all_apply zs (after_changes (ys ++ xs) ts)) turned.0 behind,
       subst₂ Agree
           (sym (after_changes-append (xs ++ ys) zs ts) ∙ ap (λ all. after_changes all ts) (append_assoc xs ys zs))
           (sym (after_changes-append (ys ++ xs) zs ts) ∙ ap (λ all. after_changes all ts) (append_assoc ys xs zs))
-          (agree_changes zs (after_changes (xs ++ ys) ts) (after_changes (ys ++ xs) ts) turned.1),
+          (agree_changes zs (after_changes (xs ++ ys) ts) (after_changes (ys ++ xs) ts) of_xy of_yx turned.1),
     )
 
 -- The changes of a transaction go before all others: all apply, and the tables agree.
-pub to_front : (txn : ℕ) (ps : List Pending) (ts : List Table) → AreDistinct ps → AllApart ps → all_apply (changes_in ps) ts ≡ true
+pub to_front : (txn : ℕ) (ps : List Pending) (ts : List Table) → AreMade ts → AreDistinct ps → AllApart ps → all_apply (changes_in ps) ts ≡ true
     → (all_apply (changes_by txn ps ++ changes_in (without_txn txn ps)) ts ≡ true)
     × Agree (after_changes (changes_in ps) ts) (after_changes (changes_by txn ps ++ changes_in (without_txn txn ps)) ts)
-to_front txn ps ts d h fit = elim (stands txn ps d) [
+to_front txn ps ts made d h fit = elim (stands txn ps d) [
   | inl none ↦
       subst₂ (λ xs ys. (all_apply (xs ++ changes_in ys) ts ≡ true) × Agree (after_changes (changes_in ps) ts) (after_changes (xs ++ changes_in ys) ts))
       (sym (by_absent txn ps none)) (sym (without_absent txn ps none)) (fit, agree_itself (after_changes (changes_in ps) ts))
@@ -285,7 +318,7 @@ to_front txn ps ts d h fit = elim (stands txn ps d) [
       let after = changes_in s.after in
       let apart = subst₂ Apart own others (apart_by txn ps d h) in
       let parts = apart_append_right_parts s.own.changes before after apart in
-      let moved = forward before s.own.changes after ts (apart_sym s.own.changes before parts.0) (sym (ap (λ xs. all_apply xs ts) (all_changes txn ps s)) ∙ fit) in
+      let moved = forward before s.own.changes after ts made (apart_sym s.own.changes before parts.0) (sym (ap (λ xs. all_apply xs ts) (all_changes txn ps s)) ∙ fit) in
       let is = ap (λ xs. xs ++ changes_in (without_txn txn ps)) own ∙ ap (λ xs. s.own.changes ++ xs) others in (
         ap (λ xs. all_apply xs ts) is ∙ moved.0,
         subst₂ (λ xs ys. Agree (after_changes xs ts) (after_changes ys ts)) (sym (all_changes txn ps s)) (sym is) moved.1,
@@ -293,21 +326,21 @@ to_front txn ps ts d h fit = elim (stands txn ps d) [
 ]
 
 -- They go behind all others.
-pub to_end : (txn : ℕ) (ps : List Pending) (ts : List Table) → AreDistinct ps → AllApart ps → all_apply (changes_in ps) ts ≡ true
+pub to_end : (txn : ℕ) (ps : List Pending) (ts : List Table) → AreMade ts → AreDistinct ps → AllApart ps → all_apply (changes_in ps) ts ≡ true
     → (all_apply (changes_in (without_txn txn ps) ++ changes_by txn ps) ts ≡ true)
     × Agree (after_changes (changes_in ps) ts) (after_changes (changes_in (without_txn txn ps) ++ changes_by txn ps) ts)
-to_end txn ps ts d h fit =
+to_end txn ps ts made d h fit =
     let own = changes_by txn ps in
     let others = changes_in (without_txn txn ps) in
-    let front = to_front txn ps ts d h fit in
-    let turned = pass own others ts (apart_by txn ps d h) front.0 in
+    let front = to_front txn ps ts made d h fit in
+    let turned = pass own others ts made (apart_by txn ps d h) front.0 in
     (turned.0, agree_trans (after_changes (changes_in ps) ts) (after_changes (own ++ others) ts) (after_changes (others ++ own) ts) front.1 turned.1)
 
 -- All others apply without them.
-pub left_out : (txn : ℕ) (ps : List Pending) (ts : List Table) → AreDistinct ps → AllApart ps → all_apply (changes_in ps) ts ≡ true
+pub left_out : (txn : ℕ) (ps : List Pending) (ts : List Table) → AreMade ts → AreDistinct ps → AllApart ps → all_apply (changes_in ps) ts ≡ true
     → all_apply (changes_in (without_txn txn ps)) ts ≡ true
-left_out txn ps ts d h fit =
-    drop_first (changes_by txn ps) (changes_in (without_txn txn ps)) ts (apart_by txn ps d h) (to_front txn ps ts d h fit).0
+left_out txn ps ts made d h fit =
+    drop_first (changes_by txn ps) (changes_in (without_txn txn ps)) ts made (apart_by txn ps d h) (to_front txn ps ts made d h fit).0
 
 -- The bytes of all changes are those of a transaction's and of the others'.
 pub bytes_parted : (txn : ℕ) (ps : List Pending) → AreDistinct ps

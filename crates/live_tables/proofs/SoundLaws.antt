@@ -8,36 +8,38 @@ use Rattle.std.proofs.lemmas.List.{append-nil, append_assoc}
 use Rattle.std.proofs.lemmas.List.Elements.{filter-append}
 use Rattle.std.proofs.lemmas.List.Folds.{find-append, list_any-append}
 use Rattle.row_format.specs.declared.change.Change.{Change}
-use Rattle.row_format.specs.declared.change.Change.TheVariants.{Install, Create, Insert}
 use Rattle.log_tables.specs.declared.table.Table.{Table}
 use Rattle.log_tables.specs.declared.gist.Prepared.{Prepared}
 use Rattle.log_tables.specs.Gists.{has_xid, prepared_with, is_prepared, without_xid}
 use Rattle.log_tables.specs.Tables.{table_named}
-use Rattle.log_tables.specs.Changes.{after_change, after_changes, all_apply, applies, takes, names_table}
+use Rattle.log_tables.specs.Changes.{after_change, after_changes, all_apply, applies, names_table}
 use Rattle.log_tables.proofs.FoldLemmas.{after_changes-append}
 use Rattle.log_tables.proofs.PartLemmas.{cases, cond_true, cond_false}
 use Rattle.engine_api.specs.States.{Pending, without_txn, changes_by, xid_by, changes_in}
-use Rattle.engine_api.specs.Live.{meets, meets_any, keys_meet, keys_of, has_under, same_number}
-use Rattle.live_tables.specs.Folds.{Apart}
+use Rattle.engine_api.specs.Live.{meets, meets_any, has_under, same_number}
+use Rattle.live_tables.specs.Folds.{AreMade, grows, AllGrow, found_after, fits, Apart}
 use Rattle.live_tables.specs.Opens.{AreDistinct, changes_left, shares, HaveOwnXids}
 use Rattle.live_tables.specs.Live.{AreSound}
-use Rattle.live_tables.proofs.NameLemmas.{no, found_after, fits, found_stays, named_after, applies_found, took}
+use Rattle.live_tables.proofs.NameLemmas.{no, found_stays, named_after, applies_found}
+use Rattle.live_tables.proofs.MadeLemmas.{made_after, all_made}
 use Rattle.live_tables.proofs.FoldLemmas.{all_apply_append}
-use Rattle.live_tables.proofs.MeetLemmas.{meets_sym, keys_none, or_false, apart_sym}
+use Rattle.live_tables.proofs.MeetLemmas.{meets_sym, or_false, apart_sym}
 use Rattle.live_tables.proofs.AgreeLemmas.{agree_applies, agree_all_apply}
-use Rattle.live_tables.proofs.ApartLemmas.{takes_behind, own_grown, keys_only, applies_from, pass_one}
-use Rattle.live_tables.proofs.OpenLaws.{neither, none_some, changes_last, distinct_without, distinct_moved, apart_append_left, apart_append_left_parts, left_without, left_by, all_apart_without, apart_by, all_apart_last, to_front, to_end, left_out, shares_append, shares_unshared, prepared_first, without_unprepared, xids_last, xids_without, xid_out, xid_kept}
+use Rattle.live_tables.proofs.ApartLemmas.{both_fit, keys_only, applies_from, pass_one}
+use Rattle.live_tables.proofs.OpenLaws.{neither, none_some, changes_last, distinct_without, distinct_moved, apart_append_left, apart_append_left_parts, grow_append, grow_without, grow_by, left_without, left_by, all_apart_without, apart_by, all_apart_last, to_front, to_end, left_out, shares_append, shares_unshared, prepared_first, without_unprepared, xids_last, xids_without, xid_out, xid_kept}
 
 -- A transaction moves to the end, with these changes and under this xid.
 sound_moved : (p : Pending) (txn : ℕ) (ts : List Table) (done : List Change) (left : List Prepared) (ps : List Pending) → AreSound ts done left ps → p.txn ≡ txn
-    → all_apply (changes_in (without_txn txn ps) ++ p.changes) (after_changes done ts) ≡ true → Apart p.changes (changes_in (without_txn txn ps)) → Apart p.changes (changes_left left)
+    → all_apply (changes_in (without_txn txn ps) ++ p.changes) (after_changes done ts) ≡ true → AllGrow p.changes → Apart p.changes (changes_in (without_txn txn ps)) → Apart p.changes (changes_left left)
     → HaveOwnXids (left ++ shares (without_txn txn ps ++ p ∷ [])) → AreSound ts done left (without_txn txn ps ++ p ∷ [])
-sound_moved p txn ts done left ps s same fit apart from_left own =
+sound_moved p txn ts done left ps s same fit grow apart from_left own =
     let others = without_txn txn ps in
     let both = apart_append_left (changes_in others) p.changes (changes_left left) (left_without txn ps (changes_left left) s.apart_left) from_left in
     record {
+      made = s.made;
       done_fit = s.done_fit;
       open_fit = ap (λ xs. all_apply xs (after_changes done ts)) (changes_last others p) ∙ fit;
+      grow = subst AllGrow (sym (changes_last others p)) (grow_append (changes_in others) p.changes (grow_without txn ps s.grow) grow);
       apart = all_apart_last p others (all_apart_without txn ps s.apart) apart;
       apart_left = subst (λ xs. Apart xs (changes_left left)) (sym (changes_last others p)) both;
       distinct = distinct_moved txn p ps s.distinct same;
@@ -59,14 +61,14 @@ shares_changed txn cs ps d h =
 
 -- One change more, that applies to the live tables and meets none of another transaction.
 pub sound_changed : (txn : ℕ) (c : Change) (ts : List Table) (done : List Change) (left : List Prepared) (ps : List Pending) → AreSound ts done left ps → xid_by txn ps ≡ None
-    → applies c (after_changes (changes_in ps) (after_changes done ts)) ≡ true → meets_any c (changes_in (without_txn txn ps)) ≡ false
+    → applies c (after_changes (changes_in ps) (after_changes done ts)) ≡ true → grows c ≡ true → meets_any c (changes_in (without_txn txn ps)) ≡ false
     → list_any (λ it. meets_any c it.changes) (left ++ shares ps) ≡ false
     → AreSound ts done left (without_txn txn ps ++ (record { txn = txn; under = None; changes = changes_by txn ps ++ c ∷ [] }) ∷ [])
-sound_changed txn c ts done left ps s under fit free from_prepared =
+sound_changed txn c ts done left ps s under fit grow free from_prepared =
     let base = after_changes done ts in
     let own = changes_by txn ps in
     let others = changes_in (without_txn txn ps) in
-    let moved = to_end txn ps base s.distinct s.apart s.open_fit in
+    let moved = to_end txn ps base (all_made done ts s.made) s.distinct s.apart s.open_fit in
     let last = sym (agree_applies c (after_changes (changes_in ps) base) (after_changes (others ++ own) base) moved.1) ∙ fit in
     let one : all_apply (c ∷ []) (after_changes (others ++ own) base) ≡ true = and_from (applies c (after_changes (others ++ own) base)) true last refl in
     let all = all_apply_append (others ++ own) (c ∷ []) base ∙ and_from (all_apply (others ++ own) base) (all_apply (c ∷ []) (after_changes (others ++ own) base)) moved.0 one in
@@ -74,6 +76,7 @@ sound_changed txn c ts done left ps s under fit free from_prepared =
     (sym (list_any-append (λ it. meets_any c it.changes) left (shares ps)) ∙ from_prepared) in
     sound_moved (record { txn = txn; under = None; changes = own ++ c ∷ [] }) txn ts done left ps s refl
     (ap (λ xs. all_apply xs base) (sym (append_assoc others own (c ∷ []))) ∙ all)
+    (grow_append own (c ∷ []) (grow_by txn ps s.grow) (grow, tt))
     (apart_append_left own (c ∷ []) others (apart_by txn ps s.distinct s.apart) (free, tt))
     (apart_append_left own (c ∷ []) (changes_left left) (left_by txn ps (changes_left left) s.apart_left) (any_left c left ∙ clear.0, tt))
     (subst (λ xs. HaveOwnXids (left ++ xs)) (sym (shares_changed txn (own ++ c ∷ []) ps s.distinct under)) s.xids)
@@ -94,7 +97,8 @@ sound_prepared txn xid ts done left ps s under free =
     let it : Prepared = record { xid = xid; changes = own } in
     let is = append_assoc left (shares ps) (it ∷ []) ∙ ap (λ xs. left ++ xs) (sym (shares_prepared txn xid own ps s.distinct under)) in
     sound_moved (record { txn = txn; under = Some xid; changes = own }) txn ts done left ps s refl
-    (to_end txn ps (after_changes done ts) s.distinct s.apart s.open_fit).0
+    (to_end txn ps (after_changes done ts) (all_made done ts s.made) s.distinct s.apart s.open_fit).0
+    (grow_by txn ps s.grow)
     (apart_by txn ps s.distinct s.apart)
     (left_by txn ps (changes_left left) s.apart_left)
     (subst HaveOwnXids is (xids_last it (left ++ shares ps) s.xids free))
@@ -106,11 +110,13 @@ sound_committed txn ts done left ps s =
     let base = after_changes done ts in
     let own = changes_by txn ps in
     let others = changes_in (without_txn txn ps) in
-    let front = (to_front txn ps base s.distinct s.apart s.open_fit).0 in
+    let front = (to_front txn ps base (all_made done ts s.made) s.distinct s.apart s.open_fit).0 in
     let parts = and_parts (all_apply own base) (all_apply others (after_changes own base)) (sym (all_apply_append own others base) ∙ front) in
     record {
+      made = s.made;
       done_fit = all_apply_append done own ts ∙ and_from (all_apply done ts) (all_apply own base) s.done_fit parts.0;
       open_fit = ap (all_apply others) (after_changes-append done own ts) ∙ parts.1;
+      grow = grow_without txn ps s.grow;
       apart = all_apart_without txn ps s.apart;
       apart_left = left_without txn ps (changes_left left) s.apart_left;
       distinct = distinct_without txn ps s.distinct;
@@ -121,54 +127,47 @@ sound_committed txn ts done left ps s =
 pub sound_rolled_back : (txn : ℕ) (ts : List Table) (done : List Change) (left : List Prepared) (ps : List Pending) → AreSound ts done left ps
     → AreSound ts done left (without_txn txn ps)
 sound_rolled_back txn ts done left ps s = record {
+  made = s.made;
   done_fit = s.done_fit;
-  open_fit = left_out txn ps (after_changes done ts) s.distinct s.apart s.open_fit;
+  grow = grow_without txn ps s.grow;
+  open_fit = left_out txn ps (after_changes done ts) (all_made done ts s.made) s.distinct s.apart s.open_fit;
   apart = all_apart_without txn ps s.apart;
   apart_left = left_without txn ps (changes_left left) s.apart_left;
   distinct = distinct_without txn ps s.distinct;
   xids = xids_without txn left ps s.distinct s.xids;
 }
 
--- Of two changes on one table that do not meet and both apply, the first applies behind the second.
-both_fit : (n : List ℕ) (a b : Change) (o : Option Table) → names_table n a ≡ true → names_table n b ≡ true → keys_meet (keys_of b) (keys_of a) ≡ false
-    → fits a o ≡ true → fits b o ≡ true → fits a (found_after n b o) ≡ true
-both_fit n (Insert ma ra) (Insert mb rb) None own_a own_b apart fit_a fit_b = absurd (no fit_a)
-both_fit n (Insert ma ra) (Insert mb rb) (Some t) own_a own_b apart fit_a fit_b =
-    ap (takes (Insert ma ra)) (own_grown n mb rb t own_b fit_b) ∙ takes_behind ma mb ra rb t apart fit_a (took mb rb t fit_b).0
-both_fit n (Create m e s) b o own_a own_b apart fit_a fit_b = absurd (no (sym apart ∙ keys_none (keys_of b)))
-both_fit n (Install e) b o own_a own_b apart fit_a fit_b = absurd (no own_a)
-both_fit n (Insert ma ra) (Create m e s) o own_a own_b apart fit_a fit_b = absurd (no (sym apart))
-both_fit n (Insert ma ra) (Install e) o own_a own_b apart fit_a fit_b = absurd (no own_b)
-
 -- Of two changes that do not meet and both apply, the first applies behind the second.
-beside_one : (a b : Change) (ts : List Table) → meets b a ≡ false → applies a ts ≡ true → applies b ts ≡ true → applies a (after_change b ts) ≡ true
-beside_one a b ts apart fit_a fit_b = applies_from a (after_change b ts) (λ n own. ap (fits a) (named_after n b ts) ∙ under n own)
+beside_one : (a b : Change) (ts : List Table) → AreMade ts → meets b a ≡ false → applies a ts ≡ true → applies b ts ≡ true → applies a (after_change b ts) ≡ true
+beside_one a b ts made apart fit_a fit_b = applies_from a (after_change b ts) (λ n own. ap (fits a) (named_after n b ts made.names) ∙ under n own)
   where
     under : (n : List ℕ) → names_table n a ≡ true → fits a (found_after n b (table_named n ts)) ≡ true
     under n own = elim (cases (names_table n b)) [
-      | inl own_b ↦ both_fit n a b (table_named n ts) own own_b (keys_only n a b own own_b apart) (sym (applies_found n a ts own) ∙ fit_a) (sym (applies_found n b ts own_b) ∙ fit_b)
+      | inl own_b ↦ both_fit n a b (table_named n ts) own_b (keys_only n a b own own_b apart) (sym (applies_found n a ts own) ∙ fit_a) (sym (applies_found n b ts own_b) ∙ fit_b)
       | inr other ↦ ap (fits a) (found_stays n b (table_named n ts) other) ∙ sym (applies_found n a ts own) ∙ fit_a
     ]
 
 -- changes that apply do so behind one that applies and meets none of them
-beside_list : (b : Change) (cs : List Change) (ts : List Table) → meets_any b cs ≡ false → all_apply cs ts ≡ true → applies b ts ≡ true → all_apply cs (after_change b ts) ≡ true
-beside_list b [] ts apart fit_cs fit_b = refl
-beside_list b (a ∷ cs) ts apart fit_cs fit_b =
+beside_list : (b : Change) (cs : List Change) (ts : List Table) → AreMade ts → meets_any b cs ≡ false → all_apply cs ts ≡ true → applies b ts ≡ true → all_apply cs (after_change b ts) ≡ true
+beside_list b [] ts made apart fit_cs fit_b = refl
+beside_list b (a ∷ cs) ts made apart fit_cs fit_b =
     let none = or_false (meets b a) (meets_any b cs) apart in
     let fit = and_parts (applies a ts) (all_apply cs (after_change a ts)) fit_cs in
-    let b_behind = beside_one b a ts (meets_sym a b ∙ none.0) fit_b fit.0 in
-    let rest = beside_list b cs (after_change a ts) none.1 fit.1 b_behind in
-    let same = (pass_one a b ts none.0 fit.0 b_behind).2 in
+    let b_behind = beside_one b a ts made (meets_sym a b ∙ none.0) fit_b fit.0 in
+    let of_a = made_after a ts made in
+    let of_b = made_after b ts made in
+    let rest = beside_list b cs (after_change a ts) of_a none.1 fit.1 b_behind in
+    let same = (pass_one a b ts made none.0 fit.0 b_behind).2 in
     and_from (applies a (after_change b ts)) (all_apply cs (after_change a (after_change b ts)))
-    (beside_one a b ts none.0 fit.0 fit_b)
-    (sym (agree_all_apply cs (after_change b (after_change a ts)) (after_change a (after_change b ts)) same) ∙ rest)
+    (beside_one a b ts made none.0 fit.0 fit_b)
+    (sym (agree_all_apply cs (after_change b (after_change a ts)) (after_change a (after_change b ts)) (made_after b (after_change a ts) of_a) (made_after a (after_change b ts) of_b) same) ∙ rest)
 
 -- Of two lists that are apart and both apply, the second applies behind the first.
-pub beside : (ds cs : List Change) (ts : List Table) → Apart ds cs → all_apply cs ts ≡ true → all_apply ds ts ≡ true → all_apply cs (after_changes ds ts) ≡ true
-beside [] cs ts apart fit_cs fit_ds = fit_cs
-beside (b ∷ ds) cs ts apart fit_cs fit_ds =
+pub beside : (ds cs : List Change) (ts : List Table) → AreMade ts → Apart ds cs → all_apply cs ts ≡ true → all_apply ds ts ≡ true → all_apply cs (after_changes ds ts) ≡ true
+beside [] cs ts made apart fit_cs fit_ds = fit_cs
+beside (b ∷ ds) cs ts made apart fit_cs fit_ds =
     let fit = and_parts (applies b ts) (all_apply ds (after_change b ts)) fit_ds in
-    beside ds cs (after_change b ts) apart.1 (beside_list b cs ts apart.0 fit_cs fit.0) fit.1
+    beside ds cs (after_change b ts) (made_after b ts made) apart.1 (beside_list b cs ts made apart.0 fit_cs fit.0) fit.1
 
 -- what is apart from all that is left is so without an xid
 left_less : (xid : ℕ) (left : List Prepared) (others : List Change) → Apart (changes_left left) others → Apart (changes_left (without_xid xid left)) others
@@ -221,8 +220,10 @@ xids_less xid (p ∷ left) more h = elim (cases (has_xid xid p)) [
 pub sound_left : (xid : ℕ) (ts : List Table) (done : List Change) (left : List Prepared) (ps : List Pending) → AreSound ts done left ps
     → AreSound ts done (without_xid xid left) ps
 sound_left xid ts done left ps s = record {
+  made = s.made;
   done_fit = s.done_fit;
   open_fit = s.open_fit;
+  grow = s.grow;
   apart = s.apart;
   apart_left = apart_sym (changes_left (without_xid xid left)) (changes_in ps) (left_less xid left (changes_in ps) (apart_sym (changes_in ps) (changes_left left) s.apart_left));
   distinct = s.distinct;
@@ -237,8 +238,10 @@ sound_left_committed xid p ts done left ps s found fit =
     let ended = sound_left xid ts done left ps s in
     let apart = left_one xid p left (changes_in ps) found (apart_sym (changes_in ps) (changes_left left) s.apart_left) in
     record {
+      made = s.made;
       done_fit = all_apply_append done p.changes ts ∙ and_from (all_apply done ts) (all_apply p.changes base) s.done_fit fit;
-      open_fit = ap (all_apply (changes_in ps)) (after_changes-append done p.changes ts) ∙ beside p.changes (changes_in ps) base apart s.open_fit fit;
+      open_fit = ap (all_apply (changes_in ps)) (after_changes-append done p.changes ts) ∙ beside p.changes (changes_in ps) base (all_made done ts s.made) apart s.open_fit fit;
+      grow = s.grow;
       apart = s.apart;
       apart_left = ended.apart_left;
       distinct = s.distinct;
@@ -277,11 +280,13 @@ found_left xid left ps h =
     or_none (Some p) = refl
 
 -- Tables and what is done to them may be told otherwise, where they are the same committed tables.
-pub sound_same : (ts us : List Table) (done more : List Change) (left : List Prepared) (ps : List Pending) → AreSound ts done left ps → all_apply more us ≡ true
+pub sound_same : (ts us : List Table) (done more : List Change) (left : List Prepared) (ps : List Pending) → AreSound ts done left ps → AreMade us → all_apply more us ≡ true
     → after_changes more us ≡ after_changes done ts → AreSound us more left ps
-sound_same ts us done more left ps s fit same = record {
+sound_same ts us done more left ps s made fit same = record {
+  made = made;
   done_fit = fit;
   open_fit = ap (all_apply (changes_in ps)) same ∙ s.open_fit;
+  grow = s.grow;
   apart = s.apart;
   apart_left = s.apart_left;
   distinct = s.distinct;

@@ -1,5 +1,5 @@
 -- What always holds of the state that the tables tell.
-use Rattle.std.proofs.Common.{◌≡◌, ℕ, List, [], ◌∷◌, ◌++◌, Option, Some, None, Bool, true, false, is_some, refl, sym, ap, subst, ◌∙◌, inl, inr}
+use Rattle.std.proofs.Common.{◌≡◌, ℕ, List, [], ◌∷◌, ◌++◌, Option, Some, None, true, false, is_some, refl, sym, ap, subst, ◌∙◌, inl, inr}
 use Rattle.std.specs.Prelude.{◌==◌}
 use Rattle.std.proofs.lemmas.Bool.{and_parts}
 use Rattle.std.proofs.lemmas.Bool.Decides.{Decides-eqb}
@@ -14,6 +14,7 @@ use Rattle.engine_api.specs.Live.{IsUnder}
 use Rattle.live_tables.specs.Opens.{shares, HaveOwnXids}
 use Rattle.live_tables.specs.Live.{state_of, AreSound}
 use Rattle.live_tables.proofs.NameLemmas.{yes_no}
+use Rattle.live_tables.proofs.MadeLemmas.{all_made}
 use Rattle.live_tables.proofs.FoldLemmas.{all_apply_append}
 use Rattle.live_tables.proofs.OpenLaws.{none_some, to_front, prepared_as, unshared_first, shared_first}
 
@@ -68,7 +69,7 @@ module _ (ts : List Table) (done : List Change) (left : List Prepared) (ps : Lis
       (let base = after_changes done ts in
       let own = changes_by txn ps in
       let others = changes_in (without_txn txn ps) in
-      (and_parts (all_apply own base) (all_apply others (after_changes own base)) (sym (all_apply_append own others base) ∙ (to_front txn ps base sound.distinct sound.apart sound.open_fit).0)).0)
+      (and_parts (all_apply own base) (all_apply others (after_changes own base)) (sym (all_apply_append own others base) ∙ (to_front txn ps base (all_made done ts sound.made) sound.distinct sound.apart sound.open_fit).0)).0)
 
   pub stands_prepared : AreSound ts done left ps → (txn xid : ℕ) → IsUnder txn xid state → prepared_with xid state.gist.prepared ≡ Some (share txn xid state.pending)
   stands_prepared sound txn xid = subst (λ (s : EngineState). IsUnder txn xid s → prepared_with xid s.gist.prepared ≡ Some (share txn xid s.pending)) is

@@ -8,3 +8,8 @@ pub record IsAlone (txn : ℕ) (state : EngineState) : Type 0 where
   pub others : without_txn txn state.pending ≡ []
   pub nothing : state.gist.prepared ≡ []
   pub unprepared : is_under txn state ≡ false
+
+-- nothing is pending, and nothing is prepared
+pub record IsIdle (state : EngineState) : Type 0 where
+  pub nothing : state.pending ≡ []
+  pub unprepared : state.gist.prepared ≡ []

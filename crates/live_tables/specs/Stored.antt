@@ -1,11 +1,11 @@
 -- The committed tables, as they are kept. (This project.)
-use Rattle.std.specs.Prelude.{◌≡◌, ℕ, List, Option, Some, None, Bool, true, false, IsTrue, is_some, insert}
+use Rattle.std.specs.Prelude.{◌≡◌, ℕ, List, Option, Some, None, Bool, true, false, IsTrue, is_some, insert, remove, set}
 use Rattle.std.specs.Ordering.{is_lt}
 use Rattle.std.specs.List.Sorted.{IsPartitionPoint}
 use Rattle.sql_value.specs.declared.value.Value.{Value}
 use Rattle.sql_value.specs.Values.{value_cmp}
 use Rattle.log_tables.specs.declared.table.Table.{Table}
-use Rattle.log_tables.specs.Keys.{key_in, row_with, inserted, IsPlaceFor}
+use Rattle.log_tables.specs.Keys.{key_in, row_with, inserted, deleted, updated, IsPlaceFor}
 use Rattle.log_tables.specs.Changes.{with_rows}
 
 -- a row has a key below this one
@@ -29,3 +29,13 @@ Takes key row rows None = inserted key row rows ≡ None
 -- the table with one row more, where it can be added
 abbrev pub with_row : List Value → Table → Table
 with_row row table = with_rows table (inserted table.definition.schema.key row table.rows)
+
+-- the rows after the row at a place gave way to another: in its place where there is no key, else where its key goes
+abbrev pub moved : Option ℕ → ℕ → List Value → List (List Value) → Option (List (List Value))
+moved None i after rows = Some (set rows i after)
+moved (Some column) i after rows = inserted (Some column) after (remove rows i)
+
+-- where the row stands that a row change names: at this place; with none, the change does not apply
+abbrev pub StandsAt : Option ℕ → ℕ → List Value → List (List Value) → Option ℕ → Type 0
+StandsAt key place before rows (Some i) = (deleted key place before rows ≡ Some (remove rows i)) × ((after : List Value) → updated key place before after rows ≡ moved key i after rows)
+StandsAt key place before rows None = (deleted key place before rows ≡ None) × ((after : List Value) → updated key place before after rows ≡ None)

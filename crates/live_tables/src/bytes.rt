@@ -1,4 +1,4 @@
-//! How many bytes changes add to the tables. Sums stop at the greatest number.
+//! How many bytes changes add to the tables, and rows have. Sums stop at the greatest number.
 ghost use Rattle.std.specs.Prelude.{◌≡◌, length, sum_by};
 ghost use Rattle.row_format.specs.Spelling.{value_spelling, row_image, column_spelling, schema_spelling};
 ghost use Rattle.live_tables.specs.Folds.{change_bytes};
@@ -25,6 +25,19 @@ pub(crate) fn row_len(row: &Row) -> u64
     let mut i = 0;
     while i < values.len() {
         sum = sum.saturating_add(value_len(&values[i]));
+        i += 1;
+    }
+    sum
+}
+
+/// How many bytes the images of rows have.
+pub(crate) fn rows_len(rows: &[Row]) -> u64
+    ensures { result ≡ capped (sum_by (λ row. length (row_image row)) rows.now) }
+{
+    let mut sum = 0u64;
+    let mut i = 0;
+    while i < rows.len() {
+        sum = sum.saturating_add(row_len(&rows[i]));
         i += 1;
     }
     sum
@@ -59,11 +72,12 @@ pub(crate) fn change_len(change: &Change) -> u64
     ensures { result ≡ capped (change_bytes change.now) }
 {
     match change {
-        Change::Install { .. } => 0,
         Change::Create { table, schema, .. } => {
             schema_len(schema).saturating_add(1 + table.as_bytes().len() as u64)
         }
         Change::Insert { row, .. } => row_len(row),
+        Change::Update { after, .. } => row_len(after),
+        _ => 0,
     }
 }
 

@@ -5,7 +5,7 @@ ghost use Rattle.engine_api.specs.States.{prepared_state, committed_state, rolle
 ghost use Rattle.engine_api.specs.Live.{is_under, IsUnder};
 
 use crate::bytes::changes_len;
-use crate::tables::{append_reserved, make_some};
+use crate::tables::append_reserved;
 use crate::{LiveTables, pending};
 use std::alloc::AllocError;
 
@@ -40,12 +40,12 @@ impl LiveTables {
         };
         let changes = it.into_changes();
         let len = changes_len(&changes);
-        self.committed = self.committed.saturating_add(len);
         self.opened -= len;
+        self.waits += len;
         self.waiting -= changes.len();
         append_reserved(&mut self.done, changes);
         self.last = number;
-        make_some(&mut self.tables, self.alloc, &mut self.done);
+        self.settle();
     }
 
     /// What a transaction has pending is undone. No memory is taken.

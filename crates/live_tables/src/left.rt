@@ -10,7 +10,7 @@ ghost use Rattle.live_tables.specs.Opens.{HaveOwnXids};
 use crate::LiveTables;
 use crate::behind::all_fit;
 use crate::bytes::changes_len;
-use crate::tables::{append_reserved, make_some};
+use crate::tables::append_reserved;
 use log_tables::Prepared;
 
 // Where a prepared transaction stands.
@@ -58,14 +58,14 @@ impl LiveTables {
             → self.new.state
             ≡ with_gist (after_commit it number self.old.state.gist) self.old.state }
     {
-        if let Some(it) = take_left(&mut self.left, xid) {
-            let changes = it.changes.into_changes();
-            self.committed = self.committed.saturating_add(changes_len(&changes));
-            self.waiting -= changes.len();
-            append_reserved(&mut self.done, changes);
-        }
+        let Some(it) = take_left(&mut self.left, xid) else {
+            unreachable!();
+        };
+        let changes = it.changes.into_changes();
+        self.waiting -= changes.len();
+        append_reserved(&mut self.done, changes);
         self.last = number;
-        make_some(&mut self.tables, self.alloc, &mut self.done);
+        self.settle();
     }
 
     /// What an earlier run prepared under this xid is undone. No memory is taken.
@@ -73,8 +73,10 @@ impl LiveTables {
         requires { IsLeft xid self.old.state }
         ensures { self.new.state ≡ dropped_state xid self.old.state }
     {
-        if let Some(it) = take_left(&mut self.left, xid) {
-            self.waiting -= it.changes.as_slice().len();
-        }
+        let Some(it) = take_left(&mut self.left, xid) else {
+            unreachable!();
+        };
+        self.waits -= changes_len(it.changes.as_slice());
+        self.waiting -= it.changes.as_slice().len();
     }
 }

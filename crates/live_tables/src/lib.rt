@@ -6,6 +6,7 @@
 //! It stands on `log_tables` (what changes make of tables) and `engine_api` (the state that an engine tells).
 #![tactic(auto)]
 
+mod back;
 mod behind;
 mod bytes;
 mod copies;

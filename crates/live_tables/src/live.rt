@@ -7,10 +7,9 @@ ghost use Rattle.std.specs.Option.{option_copied};
 ghost use Rattle.log_tables.specs.Gists.{empty_gist};
 ghost use Rattle.engine_api.specs.States.{begun_state, changes_by, xid_by};
 ghost use Rattle.engine_api.specs.Live.{live_schema, live_rows, live_row, is_taken, live_limit};
-ghost use Rattle.live_tables.specs.Bytes.{capped};
 
 use crate::pending::{self, Open};
-use crate::seek::{created_by, created_in, row_added, row_by, rows_added, rows_by};
+use crate::seek::{row_by, row_through, rows_by, rows_through, schema_by, schema_through};
 use crate::stored::Stored;
 use crate::tables;
 use log_tables::Prepared;
@@ -29,9 +28,10 @@ pub struct LiveTables {
     pub(crate) left: Vec<Prepared>,
     pub(crate) pending: Vec<Open>,
     pub(crate) last: u64,
-    // The bytes of the committed tables, up to the greatest number, and of what is pending.
+    // The bytes of the tables, of what is pending, and of what is done or left.
     pub(crate) committed: u64,
     pub(crate) opened: u64,
+    pub(crate) waits: u64,
     // How many changes are pending or left, and may be committed.
     pub(crate) waiting: usize,
 }
@@ -50,7 +50,7 @@ impl Model for LiveTables {
 
     ghost invariant = { λ l. AreSound l.tables.items l.done.items l.left.items l.pending.items
         × AreCounted l.tables.items l.done.items l.left.items l.pending.items
-        l.committed l.opened l.waiting
+        l.committed l.opened l.waits l.waiting
         × (vec_len l.done + l.waiting ≤ vec_capacity l.done) };
 }
 
@@ -68,6 +68,7 @@ impl LiveTables {
             last: 0,
             committed: 0,
             opened: 0,
+            waits: 0,
             waiting: 0,
         }
     }
@@ -76,22 +77,18 @@ impl LiveTables {
     pub fn schema(&self, table: &Name) -> Option<&Schema>
         ensures { option_copied result ≡ live_schema table.now self.now.state }
     {
-        if let Some(schema) = tables::schema(&self.tables, table) {
-            return Some(schema);
-        }
-        match created_in(&self.done, table) {
-            Some(schema) => Some(schema),
-            None => created_by(&self.pending, table),
-        }
+        let stored = tables::schema(&self.tables, table);
+        let done = schema_through(&self.done, table, stored);
+        schema_by(&self.pending, table, done)
     }
 
     /// How many rows the live table of this name has; 0 where there is none.
     pub fn records(&self, table: &Name) -> u64
         ensures { result ≡ length (live_rows table.now self.now.state) }
     {
-        (tables::rows(&self.tables, table) as u64)
-            .saturating_add(rows_added(&self.done, table) as u64)
-            .saturating_add(rows_by(&self.pending, table))
+        let stored = tables::rows(&self.tables, table) as u64;
+        let done = rows_through(&self.done, table, stored);
+        rows_by(&self.pending, table, done)
     }
 
     /// The row with this key of the live table of this name; None where there is none, or the table has no key.
@@ -99,13 +96,9 @@ impl LiveTables {
         ensures { option_copied result ≡ live_row table.now key.now self.now.state }
     {
         let column = self.schema(table)?.key? as usize;
-        if let Some(row) = tables::row(&self.tables, table, key) {
-            return Some(row);
-        }
-        match row_added(&self.done, table, column, key) {
-            Some(row) => Some(row),
-            None => row_by(&self.pending, table, column, key),
-        }
+        let stored = tables::row(&self.tables, table, key);
+        let done = row_through(&self.done, table, column, key, stored);
+        row_by(&self.pending, table, column, key, done)
     }
 
     /// Whether the live table of this name has a row with the key of this one.

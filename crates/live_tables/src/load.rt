@@ -11,8 +11,8 @@ ghost use Rattle.live_tables.specs.Stored.{with_row};
 ghost use Rattle.live_tables.specs.Loads.{with_tables, with_last, CanTake};
 
 use crate::LiveTables;
-use crate::bytes::change_len;
-use crate::tables::make_some;
+use crate::bytes::{change_len, changes_len};
+use crate::write::is_countable;
 use log_tables::{Definition, Prepared};
 use row_format::{Change, Name, Row};
 use std::alloc::AllocError;
@@ -27,10 +27,13 @@ impl LiveTables {
         ensures none { OnErr result (self.new.state ≡ self.old.state) }
     {
         let len = change_len(&change);
+        if !is_countable(self.committed, self.opened, self.waits, len) {
+            return Err(AllocError);
+        }
         self.done.reserve(self.waiting + 1)?;
         self.done.push_reserved(change);
-        self.committed = self.committed.saturating_add(len);
-        make_some(&mut self.tables, self.alloc, &mut self.done);
+        self.waits += len;
+        self.settle();
         Ok(())
     }
 
@@ -86,9 +89,14 @@ impl LiveTables {
             ≡ begun_state (after_prepare it self.old.state.gist)) }
         ensures none { OnErr result (self.new.state ≡ self.old.state) }
     {
+        let bytes = changes_len(it.changes.as_slice());
+        if !is_countable(self.committed, self.opened, self.waits, bytes) {
+            return Err(AllocError);
+        }
         let waiting = self.waiting + it.changes.as_slice().len();
         self.done.reserve(waiting)?;
         self.left.push(it)?;
+        self.waits += bytes;
         self.waiting = waiting;
         Ok(())
     }

@@ -1,49 +1,122 @@
-//! What a list of changes adds under a name: a schema, rows, and the row with a key.
-ghost use Rattle.std.specs.Prelude.{◌≡◌, ◌≤◌, length};
+//! What lists of changes make of what stands under a name: of the schema, the number of rows, and the row with a key.
+ghost use Rattle.std.specs.Prelude.{◌≡◌, ◌≤◌, ◌<◌, ◌+◌, ◌^◌, length};
 ghost use Rattle.std.specs.Option.{option_copied};
 ghost use Rattle.log_tables.specs.Keys.{has_key, key_in};
-ghost use Rattle.sql_value.specs.Values.{same_value};
 ghost use Rattle.engine_api.specs.States.{changes_in};
-ghost use Rattle.live_tables.specs.Folds.{created_in, rows_added, row_added};
-ghost use Rattle.live_tables.specs.Bytes.{capped};
+ghost use Rattle.live_tables.specs.Folds.{through, schema_step, rows_step, has, replaced, row_step};
 
 use crate::pending::Open;
 use row_format::{Change, Name, Row, Schema, Value};
 use sql_value::value_order;
 use std::cmp::Ordering;
 
-/// The schema of the first Create of a table of this name.
-pub(crate) fn created_in<'a>(changes: &'a [Change], name: &Name) -> Option<&'a Schema>
-    ensures { option_copied result ≡ created_in name.now changes.now }
+// The schema under a name after a change, where this was it before.
+fn schema_step<'a>(change: &'a Change, name: &Name, found: Option<&'a Schema>) -> Option<&'a Schema>
+    ensures { option_copied result
+        ≡ schema_step name.now change.now (option_copied found.entry) }
 {
-    let mut i = 0;
-    while i < changes.len() {
-        if let Change::Create { table, schema, .. } = &changes[i] {
+    match change {
+        Change::Create { table, schema, .. } => {
             if table.is_same(name) {
-                return Some(schema);
+                found.or(Some(schema))
+            } else {
+                found
             }
         }
-        i += 1;
+        Change::Drop { table } => { if table.is_same(name) { None } else { found } }
+        _ => found,
     }
-    None
 }
 
-/// How many rows the changes add to the table of this name.
-pub(crate) fn rows_added(changes: &[Change], name: &Name) -> usize
-    ensures value { result ≡ rows_added name.now changes.now }
-    ensures within { result ≤ length changes.now }
+/// The schema under a name after changes, where this was it before.
+pub(crate) fn schema_through<'a>(
+    changes: &'a [Change],
+    name: &Name,
+    found: Option<&'a Schema>,
+) -> Option<&'a Schema>
+    ensures { option_copied result
+        ≡ through (schema_step name.now) changes.now (option_copied found.entry) }
 {
-    let mut count = 0;
+    let mut schema = found;
     let mut i = 0;
     while i < changes.len() {
-        if let Change::Insert { map, .. } = &changes[i] {
-            if map.table.is_same(name) {
-                count += 1;
-            }
-        }
+        schema = schema_step(&changes[i], name, schema);
         i += 1;
     }
-    count
+    schema
+}
+
+/// The schema under a name after what is pending, where this was it before.
+pub(crate) fn schema_by<'a>(
+    pending: &'a [Open],
+    name: &Name,
+    found: Option<&'a Schema>,
+) -> Option<&'a Schema>
+    ensures { option_copied result
+        ≡ through (schema_step name.now) (changes_in pending.now) (option_copied found.entry) }
+{
+    let mut schema = found;
+    let mut i = 0;
+    while i < pending.len() {
+        schema = schema_through(pending[i].changes(), name, schema);
+        i += 1;
+    }
+    schema
+}
+
+// How many rows stand under a name after a change.
+fn rows_step(change: &Change, name: &Name, count: u64) -> u64
+    requires { count + 1 < 2 ^ 64 }
+    ensures value { result ≡ rows_step name.now change.now count }
+    ensures within { result ≤ count + 1 }
+{
+    match change {
+        Change::Insert { map, .. } => {
+            if map.table.is_same(name) {
+                count + 1
+            } else {
+                count
+            }
+        }
+        Change::Delete { map, .. } => {
+            if map.table.is_same(name) {
+                count.saturating_sub(1)
+            } else {
+                count
+            }
+        }
+        Change::Drop { table } => { if table.is_same(name) { 0 } else { count } }
+        _ => count,
+    }
+}
+
+/// How many rows stand under a name after changes, where there were so many before.
+pub(crate) fn rows_through(changes: &[Change], name: &Name, count: u64) -> u64
+    requires { count + length changes.now < 2 ^ 64 }
+    ensures value { result ≡ through (rows_step name.now) changes.now count }
+    ensures within { result ≤ count + length changes.now }
+{
+    let mut rows = count;
+    let mut i = 0;
+    while i < changes.len() {
+        rows = rows_step(&changes[i], name, rows);
+        i += 1;
+    }
+    rows
+}
+
+/// How many rows stand under a name after what is pending, where there were so many before.
+pub(crate) fn rows_by(pending: &[Open], name: &Name, count: u64) -> u64
+    requires { count + length (changes_in pending.now) < 2 ^ 64 }
+    ensures { result ≡ through (rows_step name.now) (changes_in pending.now) count }
+{
+    let mut rows = count;
+    let mut i = 0;
+    while i < pending.len() {
+        rows = rows_through(pending[i].changes(), name, rows);
+        i += 1;
+    }
+    rows
 }
 
 // Whether a row has this key.
@@ -56,69 +129,115 @@ fn has_key(row: &Row, column: usize, key: &Value) -> bool
     }
 }
 
-/// The first row with this key that the changes add to the table of this name.
-pub(crate) fn row_added<'a>(
+// Whether there is a row, and it has this key.
+fn has(row: Option<&Row>, column: usize, key: &Value) -> bool
+    ensures { result ≡ has column key.now (option_copied row.entry) }
+{
+    match row {
+        Some(row) => has_key(row, column, key),
+        None => false,
+    }
+}
+
+// The row with a key, where one row gave way to another.
+fn replaced<'a>(
+    column: usize,
+    key: &Value,
+    before: Option<&Row>,
+    after: Option<&'a Row>,
+    found: Option<&'a Row>,
+) -> Option<&'a Row>
+    ensures { option_copied result ≡ replaced column key.now
+        (option_copied before.entry) (option_copied after.entry) (option_copied found.entry) }
+{
+    if has(after, column, key) {
+        return after;
+    }
+    if has(before, column, key) {
+        return None;
+    }
+    found
+}
+
+// The row with this key under a name after a change, where this was it before.
+fn row_step<'a>(
+    change: &'a Change,
+    name: &Name,
+    column: usize,
+    key: &Value,
+    found: Option<&'a Row>,
+) -> Option<&'a Row>
+    ensures { option_copied result
+        ≡ row_step name.now column key.now change.now (option_copied found.entry) }
+{
+    match change {
+        Change::Insert { map, row } => {
+            if map.table.is_same(name) {
+                replaced(column, key, None, Some(row), found)
+            } else {
+                found
+            }
+        }
+        Change::Update {
+            map,
+            before,
+            after,
+            ..
+        } => {
+            if map.table.is_same(name) {
+                replaced(column, key, Some(before), Some(after), found)
+            } else {
+                found
+            }
+        }
+        Change::Delete { map, before, .. } => {
+            if map.table.is_same(name) {
+                replaced(column, key, Some(before), None, found)
+            } else {
+                found
+            }
+        }
+        Change::Drop { table } => { if table.is_same(name) { None } else { found } }
+        _ => found,
+    }
+}
+
+/// The row with this key under a name after changes, where this was it before.
+pub(crate) fn row_through<'a>(
     changes: &'a [Change],
     name: &Name,
     column: usize,
     key: &Value,
+    found: Option<&'a Row>,
 ) -> Option<&'a Row>
-    ensures { option_copied result ≡ row_added name.now column key.now changes.now }
+    ensures { option_copied result
+        ≡ through (row_step name.now column key.now) changes.now (option_copied found.entry) }
 {
+    let mut row = found;
     let mut i = 0;
     while i < changes.len() {
-        if let Change::Insert { map, row } = &changes[i] {
-            if map.table.is_same(name) && has_key(row, column, key) {
-                return Some(row);
-            }
-        }
+        row = row_step(&changes[i], name, column, key, row);
         i += 1;
     }
-    None
+    row
 }
 
-/// The schema of the first Create of a table of this name in what is pending.
-pub(crate) fn created_by<'a>(pending: &'a [Open], name: &Name) -> Option<&'a Schema>
-    ensures { option_copied result ≡ created_in name.now (changes_in pending.now) }
-{
-    let mut i = 0;
-    while i < pending.len() {
-        if let Some(schema) = created_in(pending[i].changes(), name) {
-            return Some(schema);
-        }
-        i += 1;
-    }
-    None
-}
-
-/// How many rows what is pending adds to the table of this name; it stops at the greatest number.
-pub(crate) fn rows_by(pending: &[Open], name: &Name) -> u64
-    ensures { result ≡ capped (rows_added name.now (changes_in pending.now)) }
-{
-    let mut count = 0u64;
-    let mut i = 0;
-    while i < pending.len() {
-        count = count.saturating_add(rows_added(pending[i].changes(), name) as u64);
-        i += 1;
-    }
-    count
-}
-
-/// The first row with this key in what is pending for the table of this name.
+/// The row with this key under a name after what is pending, where this was it before.
 pub(crate) fn row_by<'a>(
     pending: &'a [Open],
     name: &Name,
     column: usize,
     key: &Value,
+    found: Option<&'a Row>,
 ) -> Option<&'a Row>
-    ensures { option_copied result ≡ row_added name.now column key.now (changes_in pending.now) }
+    ensures { option_copied result ≡ through (row_step name.now column key.now)
+        (changes_in pending.now) (option_copied found.entry) }
 {
+    let mut row = found;
     let mut i = 0;
     while i < pending.len() {
-        if let Some(row) = row_added(pending[i].changes(), name, column, key) {
-            return Some(row);
-        }
+        row = row_through(pending[i].changes(), name, column, key, row);
         i += 1;
     }
-    None
+    row
 }

@@ -1,19 +1,22 @@
 //! A committed table: rows in key order, or as they were inserted.
 //!
 //! Invariant: the rows of a table with a key are in key order, so that a row is found by binary search (`IsOrdered`).
-ghost use Rattle.std.specs.Prelude.{◌≡◌, ◌≤◌, ◌<◌, ◌^◌, [], length, IfSome, IfErr, OnOk, OnErr, is_some};
+ghost use Rattle.std.specs.Prelude.{◌≡◌, ◌≤◌, ◌<◌, ◌^◌, [], Some, length, insert, remove, slice_get, unwrap_or, IfSome, IfErr, OnOk, OnErr, is_some};
 ghost use Rattle.std.specs.Option.{option_copied};
-ghost use Rattle.log_tables.specs.Keys.{key_in, row_with, IsInKeyOrder};
+ghost use Rattle.std.specs.Vec.{vec_len, vec_capacity};
+ghost use Rattle.log_tables.specs.Keys.{key_in, row_with, inserted, IsInKeyOrder};
 ghost use Rattle.log_tables.specs.Tables.{is_named};
-ghost use Rattle.row_format.specs.declared.change.Change.TheVariants.{Insert};
+ghost use Rattle.row_format.specs.declared.change.Change.TheVariants.{Insert, Update, Delete};
 ghost use Rattle.log_tables.specs.Changes.{with_rows, rows_after};
 ghost use Rattle.log_tables.specs.Keys.{IsOrdered};
 ghost use Rattle.sql_value.specs.Values.{value_cmp};
-ghost use Rattle.engine_api.specs.Live.{row_at};
-ghost use Rattle.live_tables.specs.Stored.{is_key_below, AreParted, Finds, Takes, with_row};
+ghost use Rattle.engine_api.specs.Live.{row_at, table_bytes};
+ghost use Rattle.live_tables.specs.Bytes.{capped};
+ghost use Rattle.live_tables.specs.Stored.{is_key_below, AreParted, Finds, Takes, with_row, moved, StandsAt};
 
+use crate::bytes::{rows_len, schema_len};
 use log_tables::Definition;
-use row_format::{Change, Name, Row, Schema, TableMap, Value};
+use row_format::{Change, Name, Row, Schema, TableMap, Value, is_same_row};
 use sql_value::value_order;
 use std::alloc::Global;
 use std::cmp::Ordering;
@@ -109,6 +112,72 @@ fn place_in(key: Option<u8>, rows: &[Row], row: &Row) -> Option<usize>
     }
 }
 
+// How many of the rows, from the first, have lower keys than this one, where they are in key order.
+fn count_below_row(rows: &[Row], column: usize, row: &Row) -> usize
+    ensures within { result ≤ length rows.now }
+    ensures parted { IsInKeyOrder column rows.now
+        → AreParted column (key_in column row.now) rows.now result }
+{
+    match row.values().get(column) {
+        Some(key) => count_below(rows, column, key),
+        None => count_below(rows, column, &Value::Null),
+    }
+}
+
+// Where the row stands that a row change names; None where it is another, or there is none.
+fn place_before(key: Option<u8>, rows: &[Row], place: u32, before: &Row) -> Option<usize>
+    ensures within { IfSome result (λ i. i < length rows.now) }
+    ensures found { IsOrdered key rows.now → StandsAt key place before.now rows.now result }
+{
+    let i = match key {
+        Some(column) => count_below_row(rows, column as usize, before),
+        None => place as usize,
+    };
+    let row = rows.get(i)?;
+    if is_same_row(row, before) {
+        Some(i)
+    } else {
+        None
+    }
+}
+
+// Puts a row at a place among rows that have room for one more.
+fn insert_reserved(rows: &mut Vec<Row>, i: usize, row: Row)
+    requires within { i ≤ vec_len rows.old }
+    requires room { vec_len rows.old < vec_capacity rows.old }
+    ensures { rows.new.items ≡ insert rows.old.items i row }
+{
+    match rows.insert(i, row) {
+        Ok(()) => {}
+        Err(_) => unreachable!(),
+    }
+}
+
+// Puts a row where its key goes, in place of the one at a place, where no other has its key. No memory is taken.
+fn move_by_key(rows: &mut Vec<Row>, column: usize, i: usize, after: Row)
+    requires { i < vec_len rows.old }
+    ensures { IsInKeyOrder column rows.old.items → rows.new.items
+        ≡ unwrap_or (inserted (Some column) after (remove rows.old.items i)) rows.old.items }
+{
+    let before = rows.remove(i);
+    match place_of(rows, column, &after) {
+        Some(j) => insert_reserved(rows, j, after),
+        None => insert_reserved(rows, i, before),
+    }
+}
+
+// Puts a row in place of the one at a place: there where there is no key, else where its key goes. No memory is taken.
+fn move_row(key: Option<u8>, rows: &mut Vec<Row>, i: usize, after: Row)
+    requires { i < vec_len rows.old }
+    ensures { IsOrdered key rows.old.items
+        → rows.new.items ≡ unwrap_or (moved key i after rows.old.items) rows.old.items }
+{
+    match key {
+        None => rows[i] = after,
+        Some(column) => move_by_key(rows, column as usize, i, after),
+    }
+}
+
 impl Stored {
     /// A table with no rows. No memory is taken.
     pub(crate) fn new(alloc: Global, definition: Definition) -> Stored
@@ -188,5 +257,48 @@ impl Stored {
             Ok(()) => Ok(()),
             Err(row) => Err(Change::Insert { map, row }),
         }
+    }
+
+    /// Takes out a row that stands as a Delete says, of one that was made for this schema. No memory is taken.
+    pub(crate) fn delete(&mut self, map: &TableMap, place: u32, before: &Row)
+        ensures { self.new ≡ with_rows self.old
+            (rows_after (Delete map.now place before.now) self.old) }
+    {
+        if !map.schema.is_same(&self.definition.schema) {
+            return;
+        }
+        if let Some(i) = place_before(self.definition.schema.key, &self.rows, place, before) {
+            self.rows.remove(i);
+        }
+    }
+
+    /// Puts a row in place of one that stands as an Update says, of one that was made for this schema. No memory is taken.
+    pub(crate) fn update(&mut self, map: &TableMap, place: u32, before: &Row, after: Row)
+        ensures { self.new ≡ with_rows self.old
+            (rows_after (Update map.now place before.now after) self.old) }
+    {
+        if !map.schema.is_same(&self.definition.schema) {
+            return;
+        }
+        let key = self.definition.schema.key;
+        if let Some(i) = place_before(key, &self.rows, place, before) {
+            move_row(key, &mut self.rows, i, after);
+        }
+    }
+
+    /// Its row at a place.
+    pub(crate) fn row_at(&self, place: usize) -> Option<&Row>
+        ensures { option_copied result ≡ slice_get self.now.rows place }
+    {
+        self.rows.get(place)
+    }
+
+    /// How many bytes it has: its name, its schema and its rows.
+    pub(crate) fn bytes(&self) -> u64
+        ensures { result ≡ capped (table_bytes self.now) }
+    {
+        schema_len(&self.definition.schema)
+            .saturating_add(1 + self.definition.table.as_bytes().len() as u64)
+            .saturating_add(rows_len(&self.rows))
     }
 }

@@ -9,12 +9,14 @@ ghost use Rattle.engine_api.specs.Live.{live_schema, IsRowFor, IsApart, IsInsert
 ghost use Rattle.engine_api.specs.Calls.{AnswersAlone};
 ghost use Rattle.engine_api.specs.declared.fault.EngineFault.TheVariants.{Code as code};
 ghost use Rattle.engine_api.specs.declared.fault.Code.TheVariants.{Duplicate, Full};
-ghost use Rattle.live_tables.specs.Live.{Live, Adds};
+ghost use Rattle.live_tables.specs.Folds.{grows};
+ghost use Rattle.live_tables.specs.Live.{most_bytes, Adds};
 
 use crate::LiveTables;
 use crate::bytes::change_len;
 use crate::copies::copy_row;
 use crate::pending::add_change;
+use crate::tables::make_some;
 use engine_api::{Code, EngineFault};
 use row_format::{Change, Name, Row, Schema, TableMap};
 use std::alloc::AllocError;
@@ -29,19 +31,54 @@ fn is_within(committed: u64, opened: u64, more: u64) -> bool
     committed.saturating_add(opened).saturating_add(more) <= LIVE_LIMIT
 }
 
+// How many bytes are counted at most.
+const MOST_BYTES: u64 = 9_223_372_036_854_775_808;
+
+/// Whether so many bytes can be counted.
+pub(crate) fn is_countable(committed: u64, opened: u64, waits: u64, more: u64) -> bool
+    ensures { result ≡ nat_le (committed + opened + waits + more) most_bytes }
+{
+    committed
+        .saturating_add(opened)
+        .saturating_add(waits)
+        .saturating_add(more)
+        <= MOST_BYTES
+}
+
 impl LiveTables {
+    // Makes what is done on the tables, as far as there is memory.
+    pub(crate) fn settle(&mut self)
+        ensures { self.new.state ≡ self.old.state }
+    {
+        let added = make_some(
+            &mut self.tables,
+            self.alloc,
+            &mut self.done,
+            &mut self.committed,
+        );
+        self.waits -= added;
+    }
+
     // Adds a change that applies to what a transaction has pending.
     fn add(&mut self, txn: u32, change: Change) -> Result<(), EngineFault>
         requires applies { applies change (live_tables self.old.state) ≡ true }
+        requires grows { grows change ≡ true }
         requires unprepared { is_under txn self.old.state ≡ false }
         requires apart { IsApart txn change self.old.state }
         ensures adds { Adds result (with_change txn change self.old.state)
             self.old.state self.new.state }
         ensures answers { AnswersAlone (Full ∷ []) result }
     {
+        self.settle();
+        if !self.done.is_empty() {
+            return Err(EngineFault::Memory);
+        }
         let more = change_len(&change);
         if !is_within(self.committed, self.opened, more) {
             return Err(EngineFault::Code(Code::Full));
+        }
+        if !is_countable(self.committed, self.opened, self.waits, more) {
+            return Err(EngineFault::Memory);
         }
         self.done.reserve(self.waiting + 1)?;
         add_change(&mut self.pending, self.alloc, txn, change)?;

@@ -1,4 +1,5 @@
 pub mod PartLemmas
+pub mod KeyLemmas
 pub mod FoldLemmas
 pub mod PlainLemmas
 pub mod OrderLemmas

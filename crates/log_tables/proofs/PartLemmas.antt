@@ -9,7 +9,7 @@ use Rattle.std.specs.Prelude.{Option, is_some, is_none}
 use Rattle.std.specs.Str.{bytes_eq}
 use Rattle.row_format.specs.declared.schema.Schema.{Schema}
 use Rattle.row_format.specs.declared.change.Change.{Change}
-use Rattle.row_format.specs.declared.change.Change.TheVariants.{Create, Insert, Install}
+use Rattle.row_format.specs.declared.change.Change.TheVariants.{Create, Drop, Insert, Update, Delete, Install, Uninstall}
 use Rattle.sql_value.specs.declared.value.Value.{Value}
 use Rattle.log_tables.specs.Tables.{Table, is_named, is_of, table_named, part_of, at_table, new_table, IsDictionary}
 use Rattle.log_tables.specs.Changes.{after_change, after_changes, changed, with_rows, rows_after, Applies, takes, found_of, is_on, changes_on, EachApplies, names_table}
@@ -140,8 +140,12 @@ taken (Some x) h = cc
 -- A change that is not on a table of the engine leaves the engine's part.
 pub change-other : (e : List ℕ) (c : Change) (ts : List Table) → is_on e c ts ≡ false → part_of e (after_change c ts) ≡ part_of e ts
 change-other e (Create n of s) ts h = create-other e n of s ts h (is_some (table_named n ts))
+change-other e (Drop n) ts h = at_table-other e n (λ _. []) (λ t o. refl) ts h
 change-other e (Insert map row) ts h = at_table-other e map.table (changed (Insert map row)) (changed-away e (Insert map row)) ts h
+change-other e (Update map place before after) ts h = at_table-other e map.table (changed (Update map place before after)) (changed-away e (Update map place before after)) ts h
+change-other e (Delete map place before) ts h = at_table-other e map.table (changed (Delete map place before)) (changed-away e (Delete map place before)) ts h
 change-other e (Install n) ts h = refl
+change-other e (Uninstall n) ts h = refl
 
 -- A change on a table of the engine that applies does in the engine's part what it does in all.
 pub change-own : (e : List ℕ) (c : Change) (ts : List Table) → is_on e c ts ≡ true → Applies c ts → part_of e (after_change c ts) ≡ after_change c (part_of e ts)
@@ -152,14 +156,22 @@ change-own e (Create n of s) ts h a =
     ∙ create_part e n of s ts
     ∙ ap (λ xs. part_of e ts ++ xs) (cond_true (bytes_eq of e) (new_table n of s ∷ []) [] h)
     ∙ sym (cond_false (is_some (table_named n (part_of e ts))) (part_of e ts) (part_of e ts ++ new_table n of s ∷ []) free_here)
+change-own e (Drop n) ts h a = at_table-own e n (λ _. []) (λ t o. refl) ts h
 change-own e (Insert map row) ts h a = at_table-own e map.table (changed (Insert map row)) (changed-own e (Insert map row)) ts h
+change-own e (Update map place before after) ts h a = at_table-own e map.table (changed (Update map place before after)) (changed-own e (Update map place before after)) ts h
+change-own e (Delete map place before) ts h a = at_table-own e map.table (changed (Delete map place before)) (changed-own e (Delete map place before)) ts h
 change-own e (Install n) ts h a = refl
+change-own e (Uninstall n) ts h a = refl
 
 -- It applies to the part.
 pub applies-part : (e : List ℕ) (c : Change) (ts : List Table) → is_on e c ts ≡ true → Applies c ts → Applies c (part_of e ts)
 applies-part e (Create n of s) ts h a = free-part e n ts a
+applies-part e (Drop n) ts h a = ap is_some (table_named-part e n ts h) ∙ a
 applies-part e (Insert map row) ts h a = ap (takes (Insert map row)) (table_named-part e map.table ts h) ∙ a
+applies-part e (Update map place before after) ts h a = ap (takes (Update map place before after)) (table_named-part e map.table ts h) ∙ a
+applies-part e (Delete map place before) ts h a = ap (takes (Delete map place before)) (table_named-part e map.table ts h) ∙ a
 applies-part e (Install n) ts h a = refl
+applies-part e (Uninstall n) ts h a = refl
 
 other_name : (d e n : List ℕ) → bytes_eq d e ≡ false → bytes_eq n d ≡ true → bytes_eq n e ≡ false
 other_name d e n apart h = ap (λ x. bytes_eq x e) ((bytes_eq-Decides n d).0 h) ∙ apart
@@ -171,8 +183,12 @@ other_found d e (Some t) apart h = other_name d e t.definition.engine apart h
 -- A change on a table of one engine is on none of another.
 pub one_engine : (d e : List ℕ) (c : Change) (ts : List Table) → bytes_eq d e ≡ false → is_on d c ts ≡ true → is_on e c ts ≡ false
 one_engine d e (Create n of s) ts apart h = other_name d e of apart h
+one_engine d e (Drop n) ts apart h = other_found d e (table_named n ts) apart h
 one_engine d e (Insert map row) ts apart h = other_found d e (table_named map.table ts) apart h
+one_engine d e (Update map place before after) ts apart h = other_found d e (table_named map.table ts) apart h
+one_engine d e (Delete map place before) ts apart h = other_found d e (table_named map.table ts) apart h
 one_engine d e (Install n) ts apart h = refl
+one_engine d e (Uninstall n) ts apart h = refl
 
 -- A change on a table of one engine leaves the part of each other engine.
 pub change-elsewhere : (d e : List ℕ) (c : Change) (ts : List Table) → bytes_eq d e ≡ false → is_on d c ts ≡ true → part_of e (after_change c ts) ≡ part_of e ts
@@ -253,8 +269,12 @@ table_named-other m (Create n of s) ts h = created (is_some (table_named n ts))
     created : (b : Bool) → table_named m (cond b ts (ts ++ new_table n of s ∷ [])) ≡ table_named m ts
     created true = refl
     created false = find_some-append m ts (new_table n of s) h
+table_named-other m (Drop n) ts h = at_table-elsewhere m n (λ _. []) (λ t o. refl) h ts
 table_named-other m (Insert map row) ts h = at_table-elsewhere m map.table (changed (Insert map row)) (changed-name (Insert map row) m) h ts
+table_named-other m (Update map place before after) ts h = at_table-elsewhere m map.table (changed (Update map place before after)) (changed-name (Update map place before after) m) h ts
+table_named-other m (Delete map place before) ts h = at_table-elsewhere m map.table (changed (Delete map place before)) (changed-name (Delete map place before) m) h ts
 table_named-other m (Install n) ts h = refl
+table_named-other m (Uninstall n) ts h = refl
 
 -- no name twice
 
@@ -324,5 +344,9 @@ IsDictionary-after_change (Create n of s) ts d = elim (cases (is_some (table_nam
     none_if : (o : Option Table) → is_some o ≡ false → is_none o ≡ true
     none_if None h = refl
     none_if (Some t) h = cc
+IsDictionary-after_change (Drop n) ts d = dictionary-at_table n (λ _. []) (λ m t o. refl) (λ t xs e. e.1) ts d
 IsDictionary-after_change (Insert map row) ts d = dictionary-at_table map.table (changed (Insert map row)) (changed-name (Insert map row)) (changed-dictionary (Insert map row)) ts d
+IsDictionary-after_change (Update map place before after) ts d = dictionary-at_table map.table (changed (Update map place before after)) (changed-name (Update map place before after)) (changed-dictionary (Update map place before after)) ts d
+IsDictionary-after_change (Delete map place before) ts d = dictionary-at_table map.table (changed (Delete map place before)) (changed-name (Delete map place before)) (changed-dictionary (Delete map place before)) ts d
 IsDictionary-after_change (Install n) ts d = d
+IsDictionary-after_change (Uninstall n) ts d = d

@@ -1,16 +1,16 @@
 -- Where a row goes among rows in key order.
-use Rattle.std.proofs.Common.{◌≡◌, ℕ, ◌<◌, ◌≤◌, zero, suc, List, [], ◌∷◌, length, get_or, Some, None, true, false, refl, ap, ◌∙◌, arith, inl, inr}
+use Rattle.std.proofs.Common.{◌≡◌, ℕ, ◌<◌, ◌≤◌, zero, suc, List, [], ◌∷◌, length, get_or, Some, None, true, false, refl, sym, ap, subst, ◌∙◌, arith, inl, inr}
 use Rattle.std.specs.Prelude.{is_some}
-use Rattle.std.specs.List.{insert}
+use Rattle.std.specs.List.{insert, remove}
 use Rattle.std.specs.Ordering.{is_lt, ordering_reverse}
 use Rattle.std.specs.declared.cmp.Ordering.TheVariants.{Less}
 use Rattle.std.proofs.lemmas.Bool.{cond-true, cond-false, cases_Bool}
 use Rattle.sql_value.specs.declared.value.Value.{Value}
 use Rattle.sql_value.specs.Values.{value_cmp, same_value}
 use Rattle.sql_value.proofs.OrderLemmas.{value_cmp_total}
-use Rattle.sql_value.proofs.SameLemmas.{less-other}
-use Rattle.log_tables.specs.Keys.{key_in, has_key, row_with, in_key_order, inserted, IsBelow, IsInKeyOrder, IsPlaceFor}
-use Rattle.log_tables.proofs.OrderLemmas.{below_trans, below_free}
+use Rattle.sql_value.proofs.SameLemmas.{less-other, same_value-true}
+use Rattle.log_tables.specs.Keys.{key_in, has_key, row_with, without_key, in_key_order, inserted, IsBelow, IsInKeyOrder, IsPlaceFor}
+use Rattle.log_tables.proofs.OrderLemmas.{below_trans, below_free, kept, gone, without_below}
 
 -- At the place for it, a row goes in.
 pub in_key_order-insert : (c : ℕ) (row : List Value) (rows : List (List Value)) (place : ℕ) → IsPlaceFor c (key_in c row) rows place → in_key_order c row rows ≡ insert rows place row
@@ -68,3 +68,26 @@ place_from c key [] zero d within low high = tt
 place_from c key [] (suc place) d within low high = absurd (omega arith)
 place_from c key (r ∷ rs) zero d within low high = high (omega arith)
 place_from c key (r ∷ rs) (suc place) d within low high = (low 0 (omega arith), place_from c key rs place d (omega arith) (λ k h. low (suc k) (omega arith)) (λ h. high (omega arith)))
+
+-- a row behind the first has another key
+behind_first : (c : ℕ) (key : Value) (r : List Value) (rs : List (List Value)) (i : ℕ) (d : List Value) → IsInKeyOrder c (r ∷ rs) → i < length rs → has_key c key (get_or rs i d) ≡ true → has_key c key r ≡ false
+behind_first c key r rs i d ordered within own =
+    let at : key_in c (get_or rs i d) ≡ key = same_value-true (key_in c (get_or rs i d)) key own in
+    less-other (key_in c r) key (ap (value_cmp (key_in c r)) (sym at) ∙ below_at c (key_in c r) rs i d ordered.0 within)
+
+-- The row at the place of a key is the one that has it.
+pub row_with-at : (c : ℕ) (key : Value) (rows : List (List Value)) (i : ℕ) (d : List Value) → IsInKeyOrder c rows → i < length rows → has_key c key (get_or rows i d) ≡ true
+    → row_with c key rows ≡ Some (get_or rows i d)
+row_with-at c key [] i d ordered within own = absurd (omega arith)
+row_with-at c key (r ∷ rs) zero d ordered within own = cond-true (has_key c key r) (Some r) (row_with c key rs) own
+row_with-at c key (r ∷ rs) (suc i) d ordered within own =
+    cond-false (has_key c key r) (Some r) (row_with c key rs) (behind_first c key r rs i d ordered (omega arith) own) ∙ row_with-at c key rs i d ordered.1 (omega arith) own
+
+-- Without the key, the row at its place is taken out.
+pub without_key-at : (c : ℕ) (key : Value) (rows : List (List Value)) (i : ℕ) (d : List Value) → IsInKeyOrder c rows → i < length rows → has_key c key (get_or rows i d) ≡ true
+    → without_key c key rows ≡ remove rows i
+without_key-at c key [] i d ordered within own = absurd (omega arith)
+without_key-at c key (r ∷ rs) zero d ordered within own =
+    gone c key r rs own ∙ without_below c key rs (subst (λ (k : Value). IsBelow c k rs) (same_value-true (key_in c r) key own) ordered.0)
+without_key-at c key (r ∷ rs) (suc i) d ordered within own =
+    kept c key r rs (behind_first c key r rs i d ordered (omega arith) own) ∙ ap (λ (l : List (List Value)). r ∷ l) (without_key-at c key rs i d ordered.1 (omega arith) own)

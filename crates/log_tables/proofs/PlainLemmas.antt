@@ -1,10 +1,12 @@
 -- What a search by places tells of the first table of a name, and of the place of a new row.
 use Rattle.std.proofs.Common.{◌≡◌, ℕ, suc, ◌≤◌, ◌<◌, List, [], ◌∷◌, ◌++◌, Some, None, true, refl, sym, ap, subst, ◌∙◌, arith, length, get_or, set, inl, inr}
-use Rattle.std.specs.Prelude.{is_some, insert}
+use Rattle.std.specs.Prelude.{is_some, insert, remove}
 use Rattle.std.specs.Ordering.{is_lt}
 use Rattle.sql_value.specs.declared.value.Value.{Value}
 use Rattle.sql_value.specs.Values.{value_cmp}
 use Rattle.log_tables.specs.Keys.{key_in, in_key_order, place_above}
+use Rattle.row_format.specs.declared.change.Change.{Change}
+use Rattle.log_tables.specs.Changes.{changed, with_rows, rows_after}
 use Rattle.log_tables.specs.Tables.{Table, is_named, table_named, at_table, place_named}
 use Rattle.log_tables.proofs.PartLemmas.{cases, cond_true, cond_false}
 
@@ -67,6 +69,31 @@ at_table-set n f (t ∷ ts) d h = elim (cases (is_named n t)) [
   where
     less : (j k : ℕ) → suc j < suc k → j < k
     less j k h = omega arith
+
+pub at_table-remove : (n : List ℕ) (ts : List Table) → place_named n ts < length ts → at_table n (λ _. []) ts ≡ remove ts (place_named n ts)
+at_table-remove n [] h = absurd (omega arith)
+at_table-remove n (t ∷ ts) h = elim (cases (is_named n t)) [
+  | inl here ↦
+      cond_true (is_named n t) ts (t ∷ at_table n (λ _. []) ts) here
+      ∙ sym (ap (remove (t ∷ ts)) (cond_true (is_named n t) 0 (suc (place_named n ts)) here))
+  | inr past ↦
+      cond_false (is_named n t) ts (t ∷ at_table n (λ _. []) ts) past
+      ∙ ap (λ xs. t ∷ xs) (at_table-remove n ts (less (place_named n ts) (length ts) (subst (λ k. k < suc (length ts)) (cond_false (is_named n t) 0 (suc (place_named n ts)) past) h)))
+      ∙ sym (ap (remove (t ∷ ts)) (cond_false (is_named n t) 0 (suc (place_named n ts)) past))
+]
+  where
+    less : (j k : ℕ) → suc j < suc k → j < k
+    less j k h = omega arith
+
+-- a row change of the first table of a name
+pub edited : (n : List ℕ) (c : Change) (ts : List Table) (i : ℕ) (old new : Table) → i ≡ place_named n ts → i < length ts → old ≡ get_or ts i old
+    → new ≡ with_rows old (rows_after c old) → set ts i new ≡ at_table n (changed c) ts
+edited n c ts i old new at within was is =
+    let there : place_named n ts < length ts = subst (λ k. k < length ts) at within in
+    ap (set ts i) is
+    ∙ ap (λ k. set ts k (with_rows old (rows_after c old))) at
+    ∙ ap (λ t. set ts (place_named n ts) (with_rows t (rows_after c t))) (was ∙ ap (λ k. get_or ts k old) at)
+    ∙ sym (at_table-set n (λ t. with_rows t (rows_after c t)) ts old there)
 
 -- a row is put before the first of a greater key
 pub in_key_order-insert : (column : ℕ) (row : List Value) (rows : List (List Value)) → in_key_order column row rows ≡ insert rows (place_above column row rows) row

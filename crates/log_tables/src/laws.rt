@@ -3,12 +3,18 @@ ghost use Rattle.std.specs.Prelude.{◌≡◌, ◌++◌, ◌∷◌, [], ℕ, Lis
 ghost use Rattle.row_format.specs.declared.change.Change.{Change};
 ghost use Rattle.row_format.specs.declared.change.Transaction.{Transaction};
 ghost use Rattle.log_tables.specs.Tables.{Table, part_of, IsDictionary};
-ghost use Rattle.log_tables.specs.Changes.{after_change, after_changes, changes_on, EachApplies, is_on, tables_after};
+ghost use Rattle.log_tables.specs.Changes.{after_change, after_changes, changes_on, EachApplies, is_on, tables_after, installed_changes, installed_after};
 
 /// One more transaction makes its changes on the tables of the log before it.
 pub fn log_goes_on()
     ensures { (log : List Transaction) (it : Transaction)
         → tables_after (log ++ it ∷ []) ≡ after_changes it.changes (tables_after log) }
+{}
+
+/// One more transaction makes its changes on the installed engines of the log before it.
+pub fn installed_goes_on()
+    ensures { (log : List Transaction) (it : Transaction)
+        → installed_after (log ++ it ∷ []) ≡ installed_changes it.changes (installed_after log) }
 {}
 
 /// No name stands twice in the tables of a log.

@@ -12,6 +12,6 @@ mod table;
 mod tests;
 
 pub use gist::{Gist, Prepared, PreparedList};
-pub use laws::{log_goes_on, no_name_twice, other_parts_stay, part_goes_on};
+pub use laws::{installed_goes_on, log_goes_on, no_name_twice, other_parts_stay, part_goes_on};
 pub use plain::tables_of;
 pub use table::{Definition, Rows, Table, Tables};

@@ -1,14 +1,16 @@
 //! The tables of a log in the simplest way: a plain program beside the definition, for tests.
 ghost use Rattle.std.specs.Prelude.{◌≡◌, OnOk, IfOk, is_some, unwrap_or, Some};
-ghost use Rattle.sql_value.specs.Values.{same_value};
+ghost use Rattle.std.specs.Option.{option_copied};
 ghost use Rattle.sql_value.specs.declared.value.Value.TheVariants.{Null};
-ghost use Rattle.row_format.specs.declared.change.Change.TheVariants.{Create, Insert};
-ghost use Rattle.log_tables.specs.Keys.{key_in, row_with, place_above, inserted};
+ghost use Rattle.row_format.specs.declared.change.Change.TheVariants.{Create, Drop, Insert, Update, Delete};
+ghost use Rattle.log_tables.specs.Keys.{key_in, has_key, row_with, without_key, place_above, is_row, inserted, deleted, updated};
 ghost use Rattle.log_tables.specs.Tables.{place_named};
 ghost use Rattle.log_tables.specs.Changes.{after_change, with_rows, rows_after, after_changes, tables_after};
 
 use crate::{Definition, Rows, Table, Tables};
-use row_format::{Change, Changes, Name, Row, Schema, TableMap, Transaction, Value};
+use row_format::{
+    Change, Changes, Name, Row, Schema, TableMap, Transaction, Value, is_same_row, is_same_value,
+};
 use sql_value::value_order;
 use std::alloc::{AllocError, Global};
 use std::cmp::Ordering;
@@ -50,17 +52,6 @@ fn create(
     Ok(())
 }
 
-fn is_same_value(a: &Value, b: &Value) -> bool
-    ensures { result ≡ same_value a.now b.now }
-{
-    match (a, b) {
-        (Value::Null, Value::Null) => true,
-        (Value::Int(m), Value::Int(n)) => m == n,
-        (Value::Text(s), Value::Text(t)) => s.is_same(t),
-        _ => false,
-    }
-}
-
 // The value of a row in a column, or `null` where it has no such column.
 fn value_at<'a>(row: &'a Row, column: usize, null: &'a Value) -> &'a Value
     requires { null.now ≡ Null }
@@ -72,19 +63,44 @@ fn value_at<'a>(row: &'a Row, column: usize, null: &'a Value) -> &'a Value
     }
 }
 
-// Whether a row has this key.
-fn has_row(rows: &[Row], key: &Value, column: usize) -> bool
-    ensures { result ≡ is_some (row_with column key.now rows.now) }
+// Whether this row has this key.
+fn has_key(row: &Row, key: &Value, column: usize) -> bool
+    ensures { result ≡ has_key column key.now row.now }
 {
     let null = Value::Null;
+    is_same_value(value_at(row, column, &null), key)
+}
+
+// The first row that has this key.
+fn find_row<'a>(rows: &'a [Row], key: &Value, column: usize) -> Option<&'a Row>
+    ensures { option_copied result ≡ row_with column key.now rows.now }
+{
     let mut i = 0;
     while i < rows.len() {
-        if is_same_value(value_at(&rows[i], column, &null), key) {
-            return true;
+        if has_key(&rows[i], key, column) {
+            return Some(&rows[i]);
         }
         i += 1;
     }
-    false
+    None
+}
+
+// The first row that has the key of this one.
+fn find_row_of<'a>(rows: &'a [Row], row: &Row, column: usize) -> Option<&'a Row>
+    ensures { option_copied result ≡ row_with column (key_in column row.now) rows.now }
+{
+    let null = Value::Null;
+    find_row(rows, value_at(row, column, &null), column)
+}
+
+// Whether a row was found, and it is this one.
+fn is_found(found: Option<&Row>, row: &Row) -> bool
+    ensures { result ≡ is_row (option_copied found.entry) row.now }
+{
+    match found {
+        Some(it) => is_same_row(it, row),
+        None => false,
+    }
 }
 
 // Where the first row of a greater key stands, or the number of rows.
@@ -107,8 +123,7 @@ fn place_for(rows: &[Row], row: &Row, column: usize) -> usize
 fn has_key_of(rows: &[Row], row: &Row, column: usize) -> bool
     ensures { result ≡ is_some (row_with column (key_in column row.now) rows.now) }
 {
-    let null = Value::Null;
-    has_row(rows, value_at(row, column, &null), column)
+    find_row_of(rows, row, column).is_some()
 }
 
 // Adds a row before the first of a greater key where its key is free.
@@ -157,6 +172,166 @@ fn insert(tables: &mut Vec<Table>, map: TableMap, row: Row) -> Result<(), AllocE
     Ok(())
 }
 
+// Takes out the rows of this key.
+fn remove_key(rows: &mut Rows, key: &Value, column: usize)
+    ensures { rows.new ≡ without_key column key.now rows.old }
+{
+    rows.rows.retain(|row| !has_key(row, key, column));
+}
+
+// Takes out the rows that have the key of this one.
+fn remove_key_of(rows: &mut Rows, row: &Row, column: usize)
+    ensures { rows.new ≡ without_key column (key_in column row.now) rows.old }
+{
+    let null = Value::Null;
+    remove_key(rows, value_at(row, column, &null), column);
+}
+
+// Takes out the row at a place, where it is this one.
+fn delete_at(rows: &mut Rows, place: usize, before: &Row)
+    ensures { rows.new ≡ unwrap_or (deleted None place before.now rows.old) rows.old }
+{
+    if is_found(rows.rows.get(place), before) {
+        rows.rows.remove(place);
+    }
+}
+
+// Takes out the row that has the key of this one, where it is this one.
+fn delete_by_key(rows: &mut Rows, column: usize, before: &Row)
+    ensures { rows.new ≡ unwrap_or (deleted (Some column) 0 before.now rows.old) rows.old }
+{
+    if is_found(find_row_of(&rows.rows, before, column), before) {
+        remove_key_of(rows, before, column);
+    }
+}
+
+fn delete_row(rows: &mut Rows, key: Option<u8>, place: u32, before: &Row)
+    ensures { rows.new ≡ unwrap_or (deleted key place before.now rows.old) rows.old }
+{
+    match key {
+        None => delete_at(rows, place as usize, before),
+        Some(column) => delete_by_key(rows, column as usize, before),
+    }
+}
+
+fn delete_in(table: &mut Table, map: TableMap, place: u32, before: Row)
+    ensures { table.new ≡ with_rows table.old (rows_after (Delete map place before) table.old) }
+{
+    if map.schema.is_same(&table.definition.schema) {
+        delete_row(&mut table.rows, table.definition.schema.key, place, &before);
+    }
+}
+
+// Takes a row out of its table, where it was made for that table's schema and the row is there.
+fn delete(tables: &mut Vec<Table>, map: TableMap, place: u32, before: Row)
+    ensures { tables.new.items ≡ after_change (Delete map place before) tables.old.items }
+{
+    let i = place_of(tables, &map.table);
+    if i < tables.len() {
+        delete_in(&mut tables[i], map, place, before);
+    }
+}
+
+// Puts a row at the place of another, where that is the one before.
+fn update_at(rows: &mut Rows, place: usize, before: &Row, after: Row)
+    ensures { rows.new ≡ unwrap_or (updated None place before.now after rows.old) rows.old }
+{
+    if is_found(rows.rows.get(place), before) {
+        rows.rows[place] = after;
+    }
+}
+
+// Whether a row without the key of the one before has the key of the one after.
+fn is_taken(rows: &[Row], before: &Row, after: &Row, column: usize) -> bool
+    ensures { result ≡ is_some (row_with column (key_in column after.now)
+        (without_key column (key_in column before.now) rows.now)) }
+{
+    let null = Value::Null;
+    if has_key(before, value_at(after, column, &null), column) {
+        return false;
+    }
+    has_key_of(rows, after, column)
+}
+
+// Puts a row in the place of the one that has the key of the row before, where that is the row before, and no other has its key.
+fn update_by_key(rows: &mut Rows, column: usize, before: &Row, after: Row) -> Result<(), AllocError>
+    ensures { OnOk result
+        (rows.new ≡ unwrap_or (updated (Some column) 0 before.now after rows.old) rows.old) }
+{
+    if !is_found(find_row_of(&rows.rows, before, column), before) {
+        return Ok(());
+    }
+    if is_taken(&rows.rows, before, &after, column) {
+        return Ok(());
+    }
+    remove_key_of(rows, before, column);
+    insert_in_order(rows, column, after)
+}
+
+fn update_row(
+    rows: &mut Rows,
+    key: Option<u8>,
+    place: u32,
+    before: &Row,
+    after: Row,
+) -> Result<(), AllocError>
+    ensures { OnOk result
+        (rows.new ≡ unwrap_or (updated key place before.now after rows.old) rows.old) }
+{
+    match key {
+        None => {
+            update_at(rows, place as usize, before, after);
+            Ok(())
+        }
+        Some(column) => update_by_key(rows, column as usize, before, after),
+    }
+}
+
+fn update_in(
+    table: &mut Table,
+    map: TableMap,
+    place: u32,
+    before: Row,
+    after: Row,
+) -> Result<(), AllocError>
+    ensures { OnOk result (table.new
+        ≡ with_rows table.old (rows_after (Update map place before after) table.old)) }
+{
+    if map.schema.is_same(&table.definition.schema) {
+        let key = table.definition.schema.key;
+        update_row(&mut table.rows, key, place, &before, after)?;
+    }
+    Ok(())
+}
+
+// Puts a row in the place of another of its table, where it was made for that table's schema and the other is there.
+fn update(
+    tables: &mut Vec<Table>,
+    map: TableMap,
+    place: u32,
+    before: Row,
+    after: Row,
+) -> Result<(), AllocError>
+    ensures { OnOk result (tables.new.items
+        ≡ after_change (Update map place before after) tables.old.items) }
+{
+    let i = place_of(tables, &map.table);
+    if i < tables.len() {
+        update_in(&mut tables[i], map, place, before, after)?;
+    }
+    Ok(())
+}
+
+// Takes out a table.
+fn drop_table(tables: &mut Vec<Table>, table: Name)
+    ensures { tables.new.items ≡ after_change (Drop table) tables.old.items }
+{
+    let i = place_of(tables, &table);
+    if i < tables.len() {
+        tables.remove(i);
+    }
+}
+
 // Makes one change.
 fn make(alloc: Global, tables: &mut Vec<Table>, change: Change) -> Result<(), AllocError>
     ensures { OnOk result (tables.new.items ≡ after_change change tables.old.items) }
@@ -167,8 +342,22 @@ fn make(alloc: Global, tables: &mut Vec<Table>, change: Change) -> Result<(), Al
             engine,
             schema,
         } => create(alloc, tables, table, engine, schema),
+        Change::Drop { table } => {
+            drop_table(tables, table);
+            Ok(())
+        }
         Change::Insert { map, row } => insert(tables, map, row),
-        Change::Install { .. } => Ok(()),
+        Change::Update {
+            map,
+            place,
+            before,
+            after,
+        } => update(tables, map, place, before, after),
+        Change::Delete { map, place, before } => {
+            delete(tables, map, place, before);
+            Ok(())
+        }
+        Change::Install { .. } | Change::Uninstall { .. } => Ok(()),
     }
 }
 

@@ -71,6 +71,80 @@ fn insert(
     Ok(Change::Insert { map, row })
 }
 
+fn map(rt: &impl Abort, alloc: Global, table: &[u8], keyed: bool) -> Result<TableMap, AllocError> {
+    Ok(TableMap {
+        table: name(rt, alloc, table)?,
+        schema: schema(rt, alloc, keyed)?,
+    })
+}
+
+fn update(
+    alloc: Global,
+    map: TableMap,
+    place: u32,
+    before: (i64, u8),
+    after: (i64, u8),
+) -> Result<Change, AllocError> {
+    Ok(Change::Update {
+        map,
+        place,
+        before: row(alloc, before.0, &[before.1])?,
+        after: row(alloc, after.0, &[after.1])?,
+    })
+}
+
+fn delete(
+    alloc: Global,
+    map: TableMap,
+    place: u32,
+    before: (i64, u8),
+) -> Result<Change, AllocError> {
+    Ok(Change::Delete {
+        map,
+        place,
+        before: row(alloc, before.0, &[before.1])?,
+    })
+}
+
+// Changes of t by key: of the six Updates and Deletes, those of a row that is not there, or to the key of another row, change nothing.
+fn changes_by_key(rt: &impl Abort, alloc: Global) -> Result<Vec<Change>, AllocError> {
+    let mut changes = Vec::new(alloc);
+    for (place, before, after) in [
+        (0, (2, b'b'), (5, b'e')),
+        (0, (1, b'a'), (5, b'f')),
+        (0, (1, b'z'), (1, b'q')),
+    ] {
+        changes.push(update(alloc, map(rt, alloc, b"t", true)?, place, before, after)?)?;
+    }
+    changes.push(delete(alloc, map(rt, alloc, b"t", true)?, 0, (7, b'g'))?)?;
+    changes.push(delete(alloc, map(rt, alloc, b"t", true)?, 0, (1, b'a'))?)?;
+    changes.push(insert(rt, alloc, b"t", true, 3, b"c")?)?;
+    changes.push(update(alloc, map(rt, alloc, b"t", true)?, 0, (5, b'e'), (2, b'd'))?)?;
+    Ok(changes)
+}
+
+// Changes of u by place, of which two do not apply, a table that is dropped twice, and an engine that is installed no more.
+fn changes_by_place(rt: &impl Abort, alloc: Global) -> Result<Vec<Change>, AllocError> {
+    let mut changes = Vec::new(alloc);
+    for (place, before, after) in [(1, (2, b'x'), (3, b'w')), (0, (2, b'x'), (4, b'v'))] {
+        changes.push(update(alloc, map(rt, alloc, b"u", false)?, place, before, after)?)?;
+    }
+    for (place, before) in [(0, (2, b'y')), (5, (3, b'w'))] {
+        changes.push(delete(alloc, map(rt, alloc, b"u", false)?, place, before)?)?;
+    }
+    changes.push(create(rt, alloc, b"w", b"J", true)?)?;
+    changes.push(insert(rt, alloc, b"w", true, 1, b"z")?)?;
+    for _ in 0..2 {
+        changes.push(Change::Drop {
+            table: name(rt, alloc, b"w")?,
+        })?;
+    }
+    changes.push(Change::Uninstall {
+        name: name(rt, alloc, b"J")?,
+    })?;
+    Ok(changes)
+}
+
 // A log: t with a key in J and u without one in P; a second t, a key that is there, a map of another schema and a table that is not
 // there change nothing.
 fn log(rt: &impl Abort, alloc: Global) -> Result<Vec<Transaction>, AllocError> {
@@ -114,6 +188,28 @@ fn has_rows(rt: &impl Abort, table: &Table, rows: &[(i64, u8)]) {
             _ => rt.abort(),
         }
     }
+}
+
+#[test]
+fn rows_are_changed_and_taken_out(rt: HostRuntime) -> Result<(), Fail> {
+    let mut log = log(&rt, rt.alloc())?;
+    log.push(Transaction {
+        xid: 3,
+        changes: Changes::new(changes_by_key(&rt, rt.alloc())?),
+    })?;
+    log.push(Transaction {
+        xid: 4,
+        changes: Changes::new(changes_by_place(&rt, rt.alloc())?),
+    })?;
+    let tables = tables_of(rt.alloc(), log)?;
+    match tables.as_slice() {
+        [t, u] => {
+            has_rows(&rt, t, &[(2, b'd'), (3, b'c')]);
+            has_rows(&rt, u, &[(3, b'w')]);
+        }
+        _ => rt.abort(),
+    }
+    Ok(())
 }
 
 #[test]

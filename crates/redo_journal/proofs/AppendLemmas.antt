@@ -11,7 +11,7 @@ use Rattle.redo_journal.specs.declared.journal.Area.{Area}
 use Rattle.redo_journal.specs.declared.journal.Journal.{Journal}
 use Rattle.framed_file.specs.Framed.{header_len}
 use Rattle.redo_journal.specs.Replays.{start, after_records, Fits, AllFit}
-use Rattle.redo_journal.specs.Journals.{Holds, OnlyBoth, file_on, IsBehind, IsJournalOn, IsJournal, IsKeptIn, IsKept}
+use Rattle.redo_journal.specs.Journals.{Holds, OnlyBoth, file_on, IsBehind, IsJournalOn, IsJournal, IsKeptIn}
 use Rattle.redo_journal.specs.Making.{Makes}
 use Rattle.redo_journal.specs.Appending.{Spells, FitsBehind, with_one, IsFirst, GoesTo, Admits, IsNextFrame, HasFiles, KeepsAll, KeepsMore, KeepsSynced, SettlesFile, has_area, file_with, open_file, LosesNone, LosesNoneBehind, OfFrame}
 use Rattle.redo_journal.proofs.AreaLemmas.{length-area_of}

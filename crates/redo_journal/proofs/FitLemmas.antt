@@ -16,10 +16,10 @@ use Rattle.redo_journal.specs.declared.record.Record.TheVariants.{SnapTable, Sna
 use Rattle.redo_journal.specs.declared.index.Indexed.{Indexed}
 use Rattle.redo_journal.specs.declared.replay.Replay.{Replay as ReplayIndex}
 use Rattle.redo_journal.specs.Replays.{Replay, after_record, IsRowFor, CanCommit, Allows, commit_size, end_behind, Fits}
-use Rattle.redo_journal.specs.Index.{definition_of, row_of, prepared_of, IsRowAt, IsTableAt, IsPreparedAt, IsReplay, IsFitting, HasForm, can_add, can_commit, is_possible, Becomes}
+use Rattle.redo_journal.specs.Index.{definition_of, row_of, prepared_of, IsRowAt, IsTableAt, IsPreparedAt, IsReplay, IsFitting, HasForm, adding, can_edit, can_commit, is_possible, Becomes}
 use Rattle.redo_journal.proofs.IndexLemmas.{zip_length}
 
-row_for : (row : List Value) (o : Option Table) → IsFitting row o → can_add None row o ≡ true → IsRowFor row o
+row_for : (row : List Value) (o : Option Table) → IsFitting row o → can_edit None (adding row) o ≡ true → IsRowFor row o
 row_for row None fits can = cc
 row_for row (Some table) fits can = (fits, can)
 
@@ -37,7 +37,7 @@ allows replay (Prepare it) form possible = (form.0, form.1, not-true _ possible)
 allows replay (Commit xid number) form possible = (form.0, commit_for number replay.gist (prepared_with xid replay.gist.prepared) form.1 possible)
 allows replay (Rollback xid) form possible = (form, possible)
 
-for_row : (row : List Value) (o : Option Table) → IsRowFor row o → can_add None row o ≡ true
+for_row : (row : List Value) (o : Option Table) → IsRowFor row o → can_edit None (adding row) o ≡ true
 for_row row None is = absurd is
 for_row row (Some table) is = is.1
 

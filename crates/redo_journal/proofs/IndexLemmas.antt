@@ -1,6 +1,6 @@
 -- What stands at places among records, and where a row goes among the rows of a table.
 use Rattle.std.proofs.Common.{◌≡◌, ◌≢◌, ℕ, ◌<◌, ◌≤◌, zero, suc, List, [], ◌∷◌, ◌++◌, length, take, drop, get_or, Some, None, true, false, refl, sym, ap, ◌∙◌, arith, inl, inr, subst, ◌⊎◌}
-use Rattle.std.specs.Prelude.{Option, is_some, IsTrue, unwrap_or, option_and_then, nat_eq}
+use Rattle.std.specs.Prelude.{Option, is_some, unwrap_or, option_and_then, nat_eq}
 use Rattle.std.specs.List.{AllZip, insert, slice_get}
 use Rattle.std.specs.List.Sorted.{IsPartitionedBy}
 use Rattle.std.specs.Ordering.{is_lt, is_eq, ordering_reverse, ordering_index}
@@ -13,7 +13,7 @@ use Rattle.sql_value.specs.Values.{value_cmp, same_value}
 use Rattle.sql_value.proofs.OrderLemmas.{value_cmp_total}
 use Rattle.sql_value.proofs.SameLemmas.{less, same_value-is_eq}
 use Rattle.row_format.specs.declared.schema.Schema.{Schema}
-use Rattle.std.specs.Prelude.{option_map}
+use Rattle.std.specs.Prelude.{option_map, Result, Ok, Err}
 use Rattle.std.specs.declared.vec.Vec.{Vec}
 use Rattle.std.specs.declared.alloc.Global.{Global}
 use Rattle.log_tables.specs.declared.table.Definition.{Definition}
@@ -24,7 +24,7 @@ use Rattle.log_tables.proofs.PlaceLemmas.{rises, place_from, taken_at, inserted-
 use Rattle.redo_journal.specs.declared.record.Record.{Record}
 use Rattle.redo_journal.specs.declared.place.Place.{Place}
 use Rattle.redo_journal.specs.declared.index.Indexed.{Indexed}
-use Rattle.redo_journal.specs.Index.{is_key_below, AreParted, row_at, key_at, definition_at, IsRowAt, AreRowsAt, IsTableAt, AddsRow}
+use Rattle.redo_journal.specs.Index.{is_key_below, AreParted, row_at, key_at, definition_at, IsRowAt, AreRowsAt, IsTableAt, Finds, HasRows, adding}
 
 pub zip_length : {X Y : Type 0} (R : X → Y → Type 0) (xs : List X) (ys : List Y) → AllZip R xs ys → length xs ≡ length ys
 zip_length R [] [] all = refl
@@ -86,13 +86,15 @@ place_found records column key places rows place are point within other =
     ∙ value_cmp_total.antisymm key (key_at records column (get_or places place first_place))
     ∙ greater (value_cmp (key_at records column (get_or places place first_place)) key) (point.1 place first_place (omega arith) (omega arith)) (other (omega arith)))
 
--- Where a row has this key, it is taken.
+-- Where the keys are the same, it is the row with this key.
 pub key_found : (records : List Record) (column : ℕ) (key : Value) (places : List Place) (rows : List (List Value)) (place : ℕ) → AreRowsAt records places rows → place < length places
-    → value_cmp (key_at records column (get_or places place first_place)) key ≡ Equal → is_some (row_with column key rows) ≡ true
+    → value_cmp (key_at records column (get_or places place first_place)) key ≡ Equal → Finds column key rows (Ok place)
 key_found records column key places rows place are within same =
     let same_length = zip_length (λ p row. row_at records p ≡ Some row) places rows are in
-    let at = key_of_kth records column places rows place first_place are within in
-    taken_at column key rows place [] (omega arith) (ap (λ v. same_value v key) (sym at) ∙ same_value-is_eq (key_at records column (get_or places place first_place)) key ∙ ap is_eq same)
+    let at = key_of_kth records column places rows place first_place are within in (
+      omega arith,
+      ap (λ v. same_value v key) (sym at) ∙ same_value-is_eq (key_at records column (get_or places place first_place)) key ∙ ap is_eq same,
+    )
 
 pub is_equal : (o : Ordering) → nat_eq (ordering_index o) 1 ≡ true → o ≡ Equal
 is_equal Less h = cc
@@ -104,7 +106,7 @@ is_other Less h = λ e. cc
 is_other Equal h = cc
 is_other Greater h = λ e. cc
 
-zip_cut : {X Y : Type 0} (R : X → Y → Type 0) (xs : List X) (ys : List Y) (k : ℕ) → AllZip R xs ys → AllZip R (take k xs) (take k ys) × AllZip R (drop k xs) (drop k ys)
+pub zip_cut : {X Y : Type 0} (R : X → Y → Type 0) (xs : List X) (ys : List Y) (k : ℕ) → AllZip R xs ys → AllZip R (take k xs) (take k ys) × AllZip R (drop k xs) (drop k ys)
 zip_cut R [] [] zero all = (tt, tt)
 zip_cut R [] [] (suc k) all = (tt, tt)
 zip_cut R [] (y ∷ ys) k all = absurd all
@@ -126,34 +128,45 @@ zip_insert R xs ys k x y all here =
 
 -- A table of an index with other rows: those of an Insert.
 table_added : (records : List Record) (it : Indexed) (rows : Vec Place Global) (table : Table) (row : List Value) (out : List (List Value)) → IsTableAt records it table
-    → inserted table.definition.schema.key row table.rows ≡ Some out → AreRowsAt records rows.items out → AddsRow true records (record { definition = it.definition; rows = rows }) row table
+    → adding row table ≡ Some out → AreRowsAt records rows.items out → HasRows true records (record { definition = it.definition; rows = rows }) (adding row table) table
 table_added records it rows table row out is added are =
     (out, added, record { definition = is.definition; rows = are; ordered = IsOrdered-inserted table.definition.schema.key row table.rows out added is.ordered })
 
 -- the rows of a table with this key are in order
-in_order : (records : List Record) (it : Indexed) (table : Table) (column : ℕ) → IsTableAt records it table → table.definition.schema.key ≡ Some column → IsInKeyOrder column table.rows
+pub in_order : (records : List Record) (it : Indexed) (table : Table) (column : ℕ) → IsTableAt records it table → table.definition.schema.key ≡ Some column → IsInKeyOrder column table.rows
 in_order records it table column is key = subst (λ (k : Option ℕ). IsOrdered k table.rows) key is.ordered
 
+-- what was found among the rows of the table that an index has
+pub found_here : (records : List Record) (it : Indexed) (column : ℕ) (key : Value) (slice : List Place) (table : Table) (found : Result ℕ ℕ) → IsTableAt records it table → table.definition.schema.key ≡ Some column
+    → slice ≡ it.rows.items → ((all : List (List Value)) → AreRowsAt records slice all → IsInKeyOrder column all → Finds column key all found) → Finds column key table.rows found
+found_here records it column key slice table found is keyed same finds =
+    finds table.rows (subst (λ (l : List Place). AreRowsAt records l table.rows) (sym same) is.rows) (in_order records it table column is keyed)
+
+-- a row that was read at a place is the one there
+pub read_row : (read row : List Value) (o : Option (List Value)) → Some read ≡ o → o ≡ Some row → read ≡ row
+read_row read row o is at = cc (is ∙ at)
+
 -- A row goes in at the place for its key.
-pub keyed_added : (records : List Record) (it : Indexed) (rows : Vec Place Global) (column : ℕ) (place : Place) (slice : List Place) (i : ℕ) (table : Table) (row : List Value) → IsTableAt records it table
-    → table.definition.schema.key ≡ Some column → row_at records place ≡ Some row → slice ≡ it.rows.items
-    → ((all : List (List Value)) → AreRowsAt records slice all → IsInKeyOrder column all → IsPlaceFor column (key_at records column place) all i)
-    → rows.items ≡ insert it.rows.items i place → AddsRow true records (record { definition = it.definition; rows = rows }) row table
-keyed_added records it rows column place slice i table row is key at same found added =
-    let ordered = in_order records it table column is key in
-    let here = found table.rows (subst (λ (l : List Place). AreRowsAt records l table.rows) (sym same) is.rows) ordered in
-    let there = subst (λ (v : Value). IsPlaceFor column v table.rows i) (key_of_row records column place row at) here in
-    table_added records it rows table row (insert table.rows i row) is (ap (λ (k : Option ℕ). inserted k row table.rows) key ∙ inserted-place column row table.rows i ordered there)
+pub keyed_added : (records : List Record) (it : Indexed) (rows : Vec Place Global) (column : ℕ) (place : Place) (slice : List Place) (i : ℕ) (table : Table) (read row : List Value) → IsTableAt records it table
+    → table.definition.schema.key ≡ Some column → Some read ≡ row_at records place → row_at records place ≡ Some row → slice ≡ it.rows.items
+    → ((all : List (List Value)) → AreRowsAt records slice all → IsInKeyOrder column all → Finds column (key_in column read) all (Err i))
+    → rows.items ≡ insert it.rows.items i place → HasRows true records (record { definition = it.definition; rows = rows }) (adding row table) table
+keyed_added records it rows column place slice i table read row is key known at same found added =
+    let here = found_here records it column (key_in column read) slice table (Err i) is key same found in
+    let there : IsPlaceFor column (key_in column row) table.rows i = subst (λ (r : List Value). IsPlaceFor column (key_in column r) table.rows i) (read_row read row (row_at records place) known at) here in
+    table_added records it rows table row (insert table.rows i row) is
+    (ap (λ (k : Option ℕ). inserted k row table.rows) key ∙ inserted-place column row table.rows i (in_order records it table column is key) there)
     (subst (λ (l : List Place). AreRowsAt records l (insert table.rows i row)) (sym added) (zip_insert (IsRowAt records) it.rows.items table.rows i place row is.rows at))
 
 -- A row whose key is taken does not go in.
-pub keyed_taken : (records : List Record) (it : Indexed) (column : ℕ) (place : Place) (slice : List Place) (table : Table) (row : List Value) → IsTableAt records it table
-    → table.definition.schema.key ≡ Some column → row_at records place ≡ Some row → slice ≡ it.rows.items
-    → ((all : List (List Value)) → AreRowsAt records slice all → IsInKeyOrder column all → IsTrue (is_some (row_with column (key_at records column place) all)))
-    → inserted table.definition.schema.key row table.rows ≡ None
-keyed_taken records it column place slice table row is key at same found =
-    let here = found table.rows (subst (λ (l : List Place). AreRowsAt records l table.rows) (sym same) is.rows) (in_order records it table column is key) in
-    let taken : is_some (row_with column (key_in column row) table.rows) ≡ true = subst (λ (v : Value). is_some (row_with column v table.rows) ≡ true) (key_of_row records column place row at) here in
+pub keyed_taken : (records : List Record) (it : Indexed) (column : ℕ) (place : Place) (slice : List Place) (i : ℕ) (table : Table) (read row : List Value) → IsTableAt records it table
+    → table.definition.schema.key ≡ Some column → Some read ≡ row_at records place → row_at records place ≡ Some row → slice ≡ it.rows.items
+    → ((all : List (List Value)) → AreRowsAt records slice all → IsInKeyOrder column all → Finds column (key_in column read) all (Ok i))
+    → adding row table ≡ None
+keyed_taken records it column place slice i table read row is key known at same found =
+    let here = found_here records it column (key_in column read) slice table (Ok i) is key same found in
+    let taken : is_some (row_with column (key_in column row) table.rows) ≡ true =
+    subst (λ (r : List Value). is_some (row_with column (key_in column r) table.rows) ≡ true) (read_row read row (row_at records place) known at) (taken_at column (key_in column read) table.rows i [] here.0 here.1) in
     ap (λ (k : Option ℕ). inserted k row table.rows) key ∙ inserted-taken column row table.rows taken
 
 -- the schema that was found is that of the table
@@ -163,7 +176,7 @@ schema_of_table records it table schema is found = cc (found ∙ ap (option_map 
 
 -- A row goes in at the end of a table with no key.
 pub added_last : (records : List Record) (it : Indexed) (rows : Vec Place Global) (place : Place) (table : Table) (row : List Value) → IsTableAt records it table → table.definition.schema.key ≡ None
-    → row_at records place ≡ Some row → rows.items ≡ it.rows.items ++ place ∷ [] → AddsRow true records (record { definition = it.definition; rows = rows }) row table
+    → row_at records place ≡ Some row → rows.items ≡ it.rows.items ++ place ∷ [] → HasRows true records (record { definition = it.definition; rows = rows }) (adding row table) table
 added_last records it rows place table row is key at added =
     table_added records it rows table row (table.rows ++ row ∷ []) is (ap (λ (k : Option ℕ). inserted k row table.rows) key)
     (subst (λ (l : List Place). AreRowsAt records l (table.rows ++ row ∷ [])) (sym added) (zip_append (IsRowAt records) it.rows.items table.rows (place ∷ []) (row ∷ []) is.rows (at, tt)))

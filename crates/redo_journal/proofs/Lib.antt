@@ -1,4 +1,5 @@
 pub mod IndexLemmas
+pub mod EditLemmas
 pub mod TableLemmas
 pub mod PreparedLemmas
 pub mod ReplayLemmas

@@ -19,7 +19,7 @@ use Rattle.redo_journal.specs.declared.tables.TableIndex.{TableIndex}
 use Rattle.redo_journal.specs.declared.prepared.PreparedIndex.{PreparedIndex}
 use Rattle.redo_journal.specs.declared.replay.Replay.{Replay as ReplayIndex}
 use Rattle.redo_journal.specs.Replays.{Replay, after_record, committed}
-use Rattle.redo_journal.specs.Index.{definition_of, row_of, prepared_of, definition_at, row_at, prepared_at, has_xid_at, can_add, added, AreTablesAt, ArePreparedAt, IsPreparedAt, IsReplay, can_commit, is_possible, Becomes}
+use Rattle.redo_journal.specs.Index.{definition_of, row_of, prepared_of, definition_at, row_at, prepared_at, has_xid_at, adding, can_edit, edited, AreTablesAt, ArePreparedAt, IsPreparedAt, IsReplay, can_commit, is_possible, Becomes}
 use Rattle.redo_journal.proofs.IndexLemmas.{zip_append}
 use Rattle.redo_journal.proofs.TableLemmas.{becomes, never}
 use Rattle.redo_journal.proofs.PreparedLemmas.{FoundFor, prepared_found, prepared_is, prepared_without, prepared_xid}
@@ -120,10 +120,10 @@ table_taken result index records replay number d tables is at made =
 pub row_taken : (result : Result Bool AllocError) (index : ReplayIndex) (records : List Record) (replay : Replay) (number : ℕ) (table : List ℕ) (row : List Value) (tables : TableIndex) → IsReplay index records replay
     → slice_get records number ≡ Some (SnapRow table row)
     → (row_at records (record { number = number; change = 0 }) ≡ Some row
-    → IfOk result (Becomes (can_add None row (table_named table replay.gist.tables)) (AreTablesAt records tables.tables.items (at_table table (added None row) replay.gist.tables))))
+    → IfOk result (Becomes (can_edit None (adding row) (table_named table replay.gist.tables)) (AreTablesAt records tables.tables.items (at_table table (edited None (adding row)) replay.gist.tables))))
     → Taken result (record { tables = tables; prepared = index.prepared; last = index.last; numbered = index.numbered }) records replay (SnapRow table row)
 row_taken result index records replay number table row tables is at made =
-    becomes result (is_possible replay (SnapRow table row)) (is_possible replay (SnapRow table row)) (AreTablesAt records tables.tables.items (at_table table (added None row) replay.gist.tables))
+    becomes result (is_possible replay (SnapRow table row)) (is_possible replay (SnapRow table row)) (AreTablesAt records tables.tables.items (at_table table (edited None (adding row)) replay.gist.tables))
     (IsReplay (record { tables = tables; prepared = index.prepared; last = index.last; numbered = index.numbered }) records (after_record (SnapRow table row) replay)) refl
     (λ possible stand. record { tables = stand; prepared = is.prepared; last = is.last; numbered = is.numbered }) (made (ap (λ o. row_of o 0) at))
 

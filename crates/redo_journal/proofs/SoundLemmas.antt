@@ -3,7 +3,7 @@ use Rattle.std.proofs.Common.{◌≡◌, ℕ, Bool, true, false, cond, List, [],
 use Rattle.std.specs.Prelude.{is_some}
 use Rattle.sql_value.specs.declared.value.Value.{Value}
 use Rattle.row_format.specs.declared.change.Change.{Change}
-use Rattle.row_format.specs.declared.change.Change.TheVariants.{Install, Create, Insert}
+use Rattle.row_format.specs.declared.change.Change.TheVariants.{Install, Uninstall, Create, Drop, Insert, Update, Delete}
 use Rattle.row_format.specs.Schemas.{IsSchema}
 use Rattle.row_format.specs.Spelling.{HasImage}
 use Rattle.row_format.specs.Changes.{AreFitChanges, IsFitChange}
@@ -62,10 +62,16 @@ at_table-schemas name make (it ∷ rest) makes of =
 
 after_change-schemas : (change : Change) (tables : List Table) → IsFitChange change → AreSchemas tables → AreSchemas (after_change change tables)
 after_change-schemas (Install name) tables fit of = of
+after_change-schemas (Uninstall name) tables fit of = of
+after_change-schemas (Drop table) tables fit of = at_table-schemas table (λ _. []) tables (λ it is. tt) of
 after_change-schemas (Create table engine schema) tables fit of =
     schemas_of_two (is_some (table_named table tables)) tables (tables ++ new_table table engine schema ∷ []) of (AreSchemas-append tables (new_table table engine schema ∷ []) of (fit.2, tt))
 after_change-schemas (Insert map row) tables fit of =
     at_table-schemas map.table (changed (Insert map row)) tables (λ it is. (with_rows-schema it (rows_after (Insert map row) it) is, tt)) of
+after_change-schemas (Update map place before after) tables fit of =
+    at_table-schemas map.table (changed (Update map place before after)) tables (λ it is. (with_rows-schema it (rows_after (Update map place before after) it) is, tt)) of
+after_change-schemas (Delete map place before) tables fit of =
+    at_table-schemas map.table (changed (Delete map place before)) tables (λ it is. (with_rows-schema it (rows_after (Delete map place before) it) is, tt)) of
 
 after_changes-schemas : (changes : List Change) (tables : List Table) → AreFitChanges changes → AreSchemas tables → AreSchemas (after_changes changes tables)
 after_changes-schemas [] tables fit of = of

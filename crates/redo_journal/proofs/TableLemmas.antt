@@ -1,7 +1,7 @@
 -- The table of a name in an index, and what becomes of the tables.
 use Rattle.std.proofs.Common.{◌≡◌, ◌+◌, add-one, ℕ, ◌<◌, ◌≤◌, zero, suc, List, [], ◌∷◌, ◌++◌, length, drop, get_or, Some, None, Bool, true, false, cond, refl, sym, ap, ◌∙◌, arith, inl, inr, subst, ltb, set}
-use Rattle.std.specs.Prelude.{Option, is_some, is_none, option_map, ◌&&◌}
-use Rattle.std.specs.List.{slice_get, position, position_or_len, find}
+use Rattle.std.specs.Prelude.{Option, IfSome, is_some, is_none, option_map, ◌&&◌}
+use Rattle.std.specs.List.{slice_get, position, position_or_len, find, remove}
 use Rattle.std.proofs.lemmas.Bool.{cond-true, cond-false, cases_Bool, ltb-false}
 use Rattle.std.proofs.lemmas.Option.{slice_get_past}
 use Rattle.std.proofs.lemmas.List.Folds.{find_at}
@@ -10,11 +10,11 @@ use Rattle.sql_value.specs.declared.value.Value.{Value}
 use Rattle.row_format.specs.declared.schema.Schema.{Schema}
 use Rattle.log_tables.specs.declared.table.Definition.{Definition}
 use Rattle.log_tables.specs.declared.table.Table.{Table}
-use Rattle.log_tables.specs.Keys.{inserted, IsOrdered}
+use Rattle.log_tables.specs.Keys.{IsOrdered}
 use Rattle.log_tables.specs.Tables.{is_named, table_named, at_table, new_table}
 use Rattle.row_format.specs.declared.change.TableMap.{TableMap}
 use Rattle.row_format.specs.declared.change.Change.{Change}
-use Rattle.row_format.specs.declared.change.Change.TheVariants.{Create, Insert}
+use Rattle.row_format.specs.declared.change.Change.TheVariants.{Create, Insert, Update, Delete}
 use Rattle.std.specs.declared.vec.Vec.{Vec}
 use Rattle.std.specs.declared.alloc.Global.{Global}
 use Rattle.std.specs.declared.alloc.AllocError.{AllocError}
@@ -28,7 +28,7 @@ use Rattle.redo_journal.specs.declared.record.Record.{Record}
 use Rattle.redo_journal.specs.declared.place.Place.{Place}
 use Rattle.redo_journal.specs.declared.index.Indexed.{Indexed}
 use Rattle.redo_journal.proofs.IndexLemmas.{zip_append}
-use Rattle.redo_journal.specs.Index.{change_of, definition_of, row_of, prepared_of, created, inserted_row, change_at, definition_at, row_at, prepared_at, AreRowsAt, is_defined, is_named_at, AreTablesAt, IsTableAt, suits_at, can_add, added, table_of, AddsRow, Becomes}
+use Rattle.redo_journal.specs.Index.{change_of, definition_of, row_of, prepared_of, created, new_row, change_at, definition_at, row_at, prepared_at, AreRowsAt, is_defined, is_named_at, AreTablesAt, IsTableAt, suits_at, FindsTable, Edit, adding, replacing, removing, can_edit, edited, table_of, HasRows, Edits, Becomes}
 
 -- the first that passes the test is at this place
 abbrev IsFirst : {X : Type 0} → (X → Bool) → List X → ℕ → Type 0
@@ -89,6 +89,7 @@ pub record HasTable (records : List Record) (name : List ℕ) (its : List Indexe
   pub named : table_named name tables ≡ Some table
   pub at : (d : Indexed) → IsTableAt records (get_or its i d) table
   pub replaced : (it : Indexed) (other : Table) (make : Table → List Table) → IsTableAt records it other → make table ≡ other ∷ [] → AreTablesAt records (set its i it) (at_table name make tables)
+  pub dropped : AreTablesAt records (remove its i) (at_table name (λ _. []) tables)
 
 table_first : (records : List Record) (name : List ℕ) (its : List Indexed) (tables : List Table) (i : ℕ) → AreTablesAt records its tables → IsFirst (is_named_at records name) its i → HasTable records name its tables i
 table_first records name [] tables i are first = absurd first
@@ -101,6 +102,7 @@ table_first records name (x ∷ xs) (t ∷ ts) zero are first =
       at = λ d. are.0;
       replaced = λ it other make is made.
           subst (AreTablesAt records (it ∷ xs)) (sym (cond-true (is_named name t) (make t ++ ts) (t ∷ at_table name make ts) here ∙ ap (λ (l : List Table). l ++ ts) made)) (is, are.1);
+      dropped = subst (AreTablesAt records xs) (sym (cond-true (is_named name t) ts (t ∷ at_table name (λ _. []) ts) here)) are.1;
     }
 table_first records name (x ∷ xs) (t ∷ ts) (suc i) are first =
     let other_name = sym (same_name records name x t are.0) ∙ first.0 in
@@ -111,6 +113,7 @@ table_first records name (x ∷ xs) (t ∷ ts) (suc i) are first =
       at = rest.at;
       replaced = λ it other make is made.
           subst (AreTablesAt records (x ∷ set xs i it)) (sym (cond-false (is_named name t) (make t ++ ts) (t ∷ at_table name make ts) other_name)) (are.0, rest.replaced it other make is made);
+      dropped = subst (AreTablesAt records (x ∷ remove xs i)) (sym (cond-false (is_named name t) ts (t ∷ at_table name (λ _. []) ts) other_name)) (are.0, rest.dropped);
     }
 
 -- The table of a name, where it was found.
@@ -123,40 +126,70 @@ never h = absurd (no h)
     no : false ≡ true → ⊥
     no q = cc
 
--- no such table: the row cannot be added
-pub adds_to_none : (P : Type 0) (schema : Option Schema) (row : List Value) (name : List ℕ) (tables : List Table) → table_named name tables ≡ None → Becomes (can_add schema row (table_named name tables)) P false
-adds_to_none P schema row name tables none = (sym (ap (can_add schema row) none), never)
+-- no table has this name: no rows of it can be edited
+pub finds_none : (records : List Record) (name : List ℕ) (schema : Option Schema) (its slice : List Indexed) → slice ≡ its → None ≡ position (is_named_at records name) slice → FindsTable records name schema its None
+finds_none records name schema its slice same none = λ tables are edit. ap (can_edit schema edit) (no_table records name its tables are (none ∙ ap (position (is_named_at records name)) same))
 
--- a table of another schema: the row cannot be added
-pub adds_to_other : (P : Type 0) (schema : Option Schema) (row : List Value) (name : List ℕ) (tables : List Table) (table : Table) → table_named name tables ≡ Some table → suits_at schema (Some table.definition) ≡ false
-    → Becomes (can_add schema row (table_named name tables)) P false
-adds_to_other P schema row name tables table named other =
-    (sym (ap (can_add schema row) named ∙ ap is_some (cond-false (suits_at schema (Some table.definition)) (inserted table.definition.schema.key row table.rows) None other)), never)
+-- the table of this name has another schema
+pub finds_other : (records : List Record) (name : List ℕ) (schema : Option Schema) (its slice : List Indexed) (i : ℕ) (it : Indexed) → slice ≡ its → Some i ≡ position (is_named_at records name) slice
+    → it ≡ get_or its i it → suits_at schema (definition_at records it.definition) ≡ false → FindsTable records name schema its None
+finds_other records name schema its slice i it same is at other = λ tables are edit.
+    let has = has_table records name its tables i are (is ∙ ap (position (is_named_at records name)) same) in
+    let here : IsTableAt records it has.table = subst (λ x. IsTableAt records x has.table) (sym at) (has.at it) in
+    ap (can_edit schema edit) has.named ∙ ap is_some (cond-false (suits_at schema (Some has.table.definition)) (edit has.table) None (ap (suits_at schema) (sym here.definition) ∙ other))
 
--- a row that suits the table: it can be added where an Insert applies
-pub adds_to_table : (records : List Record) (schema : Option Schema) (row : List Value) (name : List ℕ) (its : List Indexed) (tables : List Table) (i : ℕ) (it : Indexed) (b : Bool)
-    → (has : HasTable records name its tables i) → suits_at schema (Some has.table.definition) ≡ true → AddsRow b records it row has.table
-    → Becomes (can_add schema row (table_named name tables)) (AreTablesAt records (set its i it) (at_table name (added schema row) tables)) b
-adds_to_table records schema row name its tables i it false has suits adds =
-    (sym (ap (can_add schema row) has.named ∙ ap is_some (cond-true (suits_at schema (Some has.table.definition)) (inserted has.table.definition.schema.key row has.table.rows) None suits ∙ adds)), never)
-adds_to_table records schema row name its tables i it true has suits adds =
-    let rows = cond-true (suits_at schema (Some has.table.definition)) (inserted has.table.definition.schema.key row has.table.rows) None suits ∙ adds.1 in
-    (sym (ap (can_add schema row) has.named ∙ ap is_some rows), λ yes_it. has.replaced it (table_of has.table adds.0) (added schema row) adds.2 (ap (λ o. with_rows has.table o ∷ []) rows))
+-- the table of this name suits
+pub finds_table : (records : List Record) (name : List ℕ) (schema : Option Schema) (its slice : List Indexed) (i : ℕ) (it : Indexed) → slice ≡ its → Some i ≡ position (is_named_at records name) slice
+    → it ≡ get_or its i it → suits_at schema (definition_at records it.definition) ≡ true → FindsTable records name schema its (Some i)
+finds_table records name schema its slice i it same is at suits = (
+  sym (is ∙ ap (position (is_named_at records name)) same),
+  λ tables are.
+      let has = has_table records name its tables i are (is ∙ ap (position (is_named_at records name)) same) in
+      let here : IsTableAt records it has.table = subst (λ x. IsTableAt records x has.table) (sym at) (has.at it) in
+      subst (λ (o : Option Table). IfSome o (λ t. suits_at schema (Some t.definition) ≡ true)) (sym has.named) (ap (suits_at schema) (sym here.definition) ∙ suits),
+)
 
--- a row that suits the table, whatever was answered
-pub adds_to_found : (records : List Record) (schema : Option Schema) (row : List Value) (name : List ℕ) (its : List Indexed) (tables : List Table) (i : ℕ) (it same it' : Indexed) (result : Result Bool AllocError)
-    → HasTable records name its tables i → it ≡ get_or its i it → same ≡ get_or its i same → suits_at schema (definition_at records it.definition) ≡ true
-    → ((table : Table) → IsTableAt records same table → IfOk result (λ b. AddsRow b records it' row table))
-    → IfOk result (Becomes (can_add schema row (table_named name tables)) (AreTablesAt records (set its i it') (at_table name (added schema row) tables)))
-adds_to_found records schema row name its tables i it same it' result has is again suits adds =
-    let here : IsTableAt records it has.table = subst (λ x. IsTableAt records x has.table) (sym is) (has.at it) in
-    let there : IsTableAt records same has.table = subst (λ x. IsTableAt records x has.table) (sym again) (has.at same) in
-    go result (adds has.table there) (ap (suits_at schema) (sym here.definition) ∙ suits)
-  where
-    go : (r : Result Bool AllocError) → IfOk r (λ b. AddsRow b records it' row has.table) → suits_at schema (Some has.table.definition) ≡ true
-        → IfOk r (Becomes (can_add schema row (table_named name tables)) (AreTablesAt records (set its i it') (at_table name (added schema row) tables)))
-    go (Ok b) done suited = adds_to_table records schema row name its tables i it' b has suited done
-    go (Err e) done suited = tt
+-- where no table was found, the answer is no
+pub edits_none : (records : List Record) (name : List ℕ) (schema : Option Schema) (edit : Edit) (its new : List Indexed) (tables : List Table) → FindsTable records name schema its None → AreTablesAt records its tables
+    → Edits schema edit name tables records new false
+edits_none records name schema edit its new tables none are = (sym (none tables are edit), never)
+
+-- the rows of the table that was found are edited where they can be
+edits_table : (records : List Record) (name : List ℕ) (schema : Option Schema) (edit : Edit) (its : List Indexed) (tables : List Table) (i : ℕ) (it : Indexed) (b : Bool) (has : HasTable records name its tables i)
+    → suits_at schema (Some has.table.definition) ≡ true → HasRows b records it (edit has.table) has.table → Edits schema edit name tables records (set its i it) b
+edits_table records name schema edit its tables i it false has suits rows =
+    (sym (ap (can_edit schema edit) has.named ∙ ap is_some (cond-true (suits_at schema (Some has.table.definition)) (edit has.table) None suits ∙ rows)), never)
+edits_table records name schema edit its tables i it true has suits rows =
+    let made = cond-true (suits_at schema (Some has.table.definition)) (edit has.table) None suits ∙ rows.1 in
+    (sym (ap (can_edit schema edit) has.named ∙ ap is_some made), λ yes_it. has.replaced it (table_of has.table rows.0) (edited schema edit) rows.2 (ap (λ o. with_rows has.table o ∷ []) made))
+
+-- the rows of the table that was found, edited
+pub edits_found : (records : List Record) (name : List ℕ) (schema : Option Schema) (edit : Edit) (its : List Indexed) (tables : List Table) (i : ℕ) (it it' : Indexed) (b : Bool)
+    → FindsTable records name schema its (Some i) → AreTablesAt records its tables → it ≡ get_or its i it → ((table : Table) → IsTableAt records it table → HasRows b records it' (edit table) table)
+    → Edits schema edit name tables records (set its i it') b
+edits_found records name schema edit its tables i it it' b found are at rows =
+    let has = has_table records name its tables i are (sym found.0) in
+    let here : IsTableAt records it has.table = subst (λ x. IsTableAt records x has.table) (sym at) (has.at it) in
+    edits_table records name schema edit its tables i it' b has (subst (λ (o : Option Table). IfSome o (λ t. suits_at schema (Some t.definition) ≡ true)) has.named (found.1 tables are)) (rows has.table here)
+
+-- the same, where memory may run out
+pub edits_found_or : (records : List Record) (name : List ℕ) (schema : Option Schema) (edit : Edit) (its : List Indexed) (tables : List Table) (i : ℕ) (it it' : Indexed) (result : Result Bool AllocError)
+    → FindsTable records name schema its (Some i) → AreTablesAt records its tables → it ≡ get_or its i it
+    → ((table : Table) → IsTableAt records it table → IfOk result (λ b. HasRows b records it' (edit table) table)) → IfOk result (Edits schema edit name tables records (set its i it'))
+edits_found_or records name schema edit its tables i it it' (Ok b) found are at rows = edits_found records name schema edit its tables i it it' b found are at rows
+edits_found_or records name schema edit its tables i it it' (Err e) found are at rows = tt
+
+-- no table of this name is dropped
+pub drops_none : (P : Type 0) (records : List Record) (name : List ℕ) (its slice : List Indexed) (tables : List Table) → AreTablesAt records its tables → slice ≡ its → None ≡ position (is_named_at records name) slice
+    → Becomes (is_some (table_named name tables)) P false
+drops_none P records name its slice tables are same none = (sym (ap is_some (no_table records name its tables are (none ∙ ap (position (is_named_at records name)) same))), never)
+
+-- the table of this name is dropped
+pub drops_found : (records : List Record) (name : List ℕ) (its slice new : List Indexed) (tables : List Table) (i : ℕ) → AreTablesAt records its tables → slice ≡ its
+    → Some i ≡ position (is_named_at records name) slice → new ≡ remove its i → Becomes (is_some (table_named name tables)) (AreTablesAt records new (at_table name (λ _. []) tables)) true
+drops_found records name its slice new tables i are same is removed =
+    let has = has_table records name its tables i are (is ∙ ap (position (is_named_at records name)) same) in
+    (sym (ap is_some has.named), λ yes_it. subst (λ (l : List Indexed). AreTablesAt records l (at_table name (λ _. []) tables)) (sym removed) has.dropped)
 
 -- the schema of a table of an index
 pub schema_found : (records : List Record) (name : List ℕ) (its : List Indexed) (tables : List Table) (i : ℕ) (it : Indexed) → HasTable records name its tables i → it ≡ get_or its i it
@@ -233,7 +266,7 @@ row_made None change map row is = cc
 row_made (Some (SnapTable it)) change map row is = cc
 row_made (Some (SnapRow t other)) change map row is = cc
 row_made (Some (SnapLast number)) change map row is = cc
-row_made (Some (Prepare it)) change map row is = ap inserted_row is
+row_made (Some (Prepare it)) change map row is = ap new_row is
 row_made (Some (Commit xid number)) change map row is = cc
 row_made (Some (Rollback xid)) change map row is = cc
 
@@ -257,46 +290,87 @@ change_made (Some (Rollback xid)) change it is = cc
 pub change_of_prepared : (records : List Record) (number change : ℕ) (it : Prepared) → prepared_at records number ≡ Some it → change_at records (record { number = number; change = change }) ≡ slice_get it.changes change
 change_of_prepared records number change it is = change_made (slice_get records number) change it is
 
--- a Create that was made
-pub applies_create : (records : List Record) (place : Place) (result : Result Bool AllocError) (new : List Indexed) (tables : List Table) (it made : Change) (table engine : List ℕ) (schema : Schema)
-    → Some made ≡ change_at records place → made ≡ Create table engine schema → change_at records place ≡ Some it
-    → ((d : Definition) → definition_at records place ≡ Some d → IfOk result (Becomes (is_none (table_named d.table tables)) (AreTablesAt records new (tables ++ record { definition = d; rows = [] } ∷ []))))
-    → IfOk result (Becomes (applies it tables) (AreTablesAt records new (after_change it tables)))
-applies_create records place result new tables it made table engine schema found is at done =
-    let d : Definition = record { table = table; engine = engine; schema = schema } in
-    let same : Create table engine schema ≡ it = some_same (Create table engine schema) it (ap Some (sym is) ∙ found ∙ at) in
-    let free : Option Table = table_named table tables in
-    subst (λ (c : Change). IfOk result (Becomes (applies c tables) (AreTablesAt records new (after_change c tables)))) same
-    (becomes result (is_none free) (is_none free) (AreTablesAt records new (tables ++ record { definition = d; rows = [] } ∷ [])) (AreTablesAt records new (after_change (Create table engine schema) tables)) refl
-    (λ none stand. subst (AreTablesAt records new) (sym (cond-false (is_some free) tables (tables ++ new_table table engine schema ∷ []) (not_some free none))) stand)
-    (done d (definition_of_create records place table engine schema (sym found ∙ ap Some is))))
+row_updated : (o : Option Record) (change : ℕ) (map : TableMap) (at : ℕ) (before after : List Value) → change_of o change ≡ Some (Update map at before after) → row_of o change ≡ Some after
+row_updated None change map at before after is = cc
+row_updated (Some (SnapTable it)) change map at before after is = cc
+row_updated (Some (SnapRow t other)) change map at before after is = cc
+row_updated (Some (SnapLast number)) change map at before after is = cc
+row_updated (Some (Prepare it)) change map at before after is = ap new_row is
+row_updated (Some (Commit xid number)) change map at before after is = cc
+row_updated (Some (Rollback xid)) change map at before after is = cc
+
+-- an Update has the row after it at its place
+pub row_of_update : (records : List Record) (place : Place) (map : TableMap) (at : ℕ) (before after : List Value) → change_at records place ≡ Some (Update map at before after) → row_at records place ≡ Some after
+row_of_update records place map at before after is = row_updated (slice_get records place.number) place.change map at before after is
+
+-- what a change answers that applies to tables, where it was made
+abbrev pub Makes : List Record → List Indexed → List Table → Change → Bool → Type 0
+Makes records new tables it answer = Becomes (applies it tables) (AreTablesAt records new (after_change it tables)) answer
+
+-- the change that was read at a place was made
+pub applies_made : (records : List Record) (place : Place) (result : Result Bool AllocError) (new : List Indexed) (tables : List Table) (it made : Change) → Some made ≡ change_at records place
+    → change_at records place ≡ Some it → IfOk result (Makes records new tables made) → IfOk result (Makes records new tables it)
+applies_made records place result new tables it made found at done = subst (λ (c : Change). IfOk result (Makes records new tables c)) (some_same made it (found ∙ at)) done
   where
     some_same : (x y : Change) → Some x ≡ Some y → x ≡ y
     some_same x y e = cc
 
+-- a Create that was made
+pub applies_create : (records : List Record) (place : Place) (result : Result Bool AllocError) (new : List Indexed) (tables : List Table) (table engine : List ℕ) (schema : Schema)
+    → Some (Create table engine schema) ≡ change_at records place
+    → ((d : Definition) → definition_at records place ≡ Some d → IfOk result (Becomes (is_none (table_named d.table tables)) (AreTablesAt records new (tables ++ record { definition = d; rows = [] } ∷ []))))
+    → IfOk result (Makes records new tables (Create table engine schema))
+applies_create records place result new tables table engine schema found done =
+    let d : Definition = record { table = table; engine = engine; schema = schema } in
+    let free : Option Table = table_named table tables in
+    becomes result (is_none free) (is_none free) (AreTablesAt records new (tables ++ record { definition = d; rows = [] } ∷ [])) (AreTablesAt records new (after_change (Create table engine schema) tables)) refl
+    (λ none stand. subst (AreTablesAt records new) (sym (cond-false (is_some free) tables (tables ++ new_table table engine schema ∷ []) (not_some free none))) stand)
+    (done d (definition_of_create records place table engine schema (sym found)))
+  where
     not_some : (o : Option Table) → is_none o ≡ true → is_some o ≡ false
     not_some None h = refl
     not_some (Some t) h = cc
 
-takes_same : (map : TableMap) (row : List Value) (o : Option Table) → can_add (Some map.schema) row o ≡ takes (Insert map row) o
-takes_same map row None = refl
-takes_same map row (Some table) = refl
+-- a change of rows takes what was found where its edit can be made
+insert_takes : (map : TableMap) (row : List Value) (o : Option Table) → can_edit (Some map.schema) (adding row) o ≡ takes (Insert map row) o
+insert_takes map row None = refl
+insert_takes map row (Some table) = refl
+
+update_takes : (map : TableMap) (at : ℕ) (before after : List Value) (o : Option Table) → can_edit (Some map.schema) (replacing at before after) o ≡ takes (Update map at before after) o
+update_takes map at before after None = refl
+update_takes map at before after (Some table) = refl
+
+delete_takes : (map : TableMap) (at : ℕ) (before : List Value) (o : Option Table) → can_edit (Some map.schema) (removing at before) o ≡ takes (Delete map at before) o
+delete_takes map at before None = refl
+delete_takes map at before (Some table) = refl
 
 -- an Insert that was made
-pub applies_insert : (records : List Record) (place : Place) (result : Result Bool AllocError) (new : List Indexed) (tables : List Table) (it made : Change) (map : TableMap) (other : List Value)
-    → Some made ≡ change_at records place → made ≡ Insert map other → change_at records place ≡ Some it
-    → ((row : List Value) → row_at records place ≡ Some row
-    → IfOk result (Becomes (can_add (Some map.schema) row (table_named map.table tables)) (AreTablesAt records new (at_table map.table (added (Some map.schema) row) tables))))
-    → IfOk result (Becomes (applies it tables) (AreTablesAt records new (after_change it tables)))
-applies_insert records place result new tables it made map other found is at done =
-    let same : Insert map other ≡ it = some_same (Insert map other) it (ap Some (sym is) ∙ found ∙ at) in
+pub applies_insert : (records : List Record) (place : Place) (result : Result Bool AllocError) (new : List Indexed) (tables : List Table) (map : TableMap) (row : List Value)
+    → Some (Insert map row) ≡ change_at records place
+    → ((it : List Value) → row_at records place ≡ Some it → IfOk result (Edits (Some map.schema) (adding it) map.table tables records new)) → IfOk result (Makes records new tables (Insert map row))
+applies_insert records place result new tables map row found done =
     let found_as : Option Table = table_named map.table tables in
-    subst (λ (c : Change). IfOk result (Becomes (applies c tables) (AreTablesAt records new (after_change c tables)))) same
-    (becomes result (can_add (Some map.schema) other found_as) (takes (Insert map other) found_as) (AreTablesAt records new (at_table map.table (added (Some map.schema) other) tables)) (AreTablesAt records new (after_change (Insert map other) tables))
-    (takes_same map other found_as) (λ possible stand. stand) (done other (row_of_insert records place map other (sym found ∙ ap Some is))))
-  where
-    some_same : (x y : Change) → Some x ≡ Some y → x ≡ y
-    some_same x y e = cc
+    becomes result (can_edit (Some map.schema) (adding row) found_as) (takes (Insert map row) found_as) (AreTablesAt records new (at_table map.table (edited (Some map.schema) (adding row)) tables)) (AreTablesAt records new (after_change (Insert map row) tables))
+    (insert_takes map row found_as) (λ possible stand. stand) (done row (row_of_insert records place map row (sym found)))
+
+-- an Update that was made
+pub applies_update : (records : List Record) (place : Place) (result : Result Bool AllocError) (new : List Indexed) (tables : List Table) (map : TableMap) (at : ℕ) (before after : List Value)
+    → Some (Update map at before after) ≡ change_at records place
+    → ((it : List Value) → row_at records place ≡ Some it → IfOk result (Edits (Some map.schema) (replacing at before it) map.table tables records new))
+    → IfOk result (Makes records new tables (Update map at before after))
+applies_update records place result new tables map at before after found done =
+    let found_as : Option Table = table_named map.table tables in
+    becomes result (can_edit (Some map.schema) (replacing at before after) found_as) (takes (Update map at before after) found_as)
+    (AreTablesAt records new (at_table map.table (edited (Some map.schema) (replacing at before after)) tables)) (AreTablesAt records new (after_change (Update map at before after) tables))
+    (update_takes map at before after found_as) (λ possible stand. stand) (done after (row_of_update records place map at before after (sym found)))
+
+-- a Delete that was made
+pub applies_delete : (records : List Record) (result : Bool) (new : List Indexed) (tables : List Table) (map : TableMap) (at : ℕ) (before : List Value)
+    → Edits (Some map.schema) (removing at before) map.table tables records new result → Makes records new tables (Delete map at before) result
+applies_delete records result new tables map at before done =
+    let found_as : Option Table = table_named map.table tables in
+    becomes (Ok result) (can_edit (Some map.schema) (removing at before) found_as) (takes (Delete map at before) found_as) (AreTablesAt records new (at_table map.table (edited (Some map.schema) (removing at before)) tables))
+    (AreTablesAt records new (after_change (Delete map at before) tables)) (delete_takes map at before found_as) (λ possible stand. stand) done
 
 drop_get : {X : Type 0} (xs : List X) (k : ℕ) → k < length xs → (x : X) × (slice_get xs k ≡ Some x) × (drop k xs ≡ x ∷ drop (suc k) xs)
 drop_get [] k within = absurd (omega arith)

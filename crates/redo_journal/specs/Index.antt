@@ -1,5 +1,5 @@
 -- What does an index into a list of records stand for? (This project.)
-use Rattle.std.specs.Prelude.{◌≡◌, ℕ, List, Option, Some, None, Bool, true, false, option_and_then, option_map, slice_get, unwrap_or, is_some, IsTrue, cond, [], ◌∷◌, ◌++◌, ◌<◌, ◌^◌, ◌&&◌, not, is_none, nat_lt}
+use Rattle.std.specs.Prelude.{Result, Ok, Err, IfSome, IfNone, length, get_or, position, ◌≡◌, ℕ, List, Option, Some, None, Bool, true, false, option_and_then, option_map, slice_get, unwrap_or, is_some, cond, [], ◌∷◌, ◌++◌, ◌<◌, ◌^◌, ◌&&◌, not, is_none, nat_lt}
 use Rattle.std.specs.List.{AllZip}
 use Rattle.std.specs.Str.{bytes_eq}
 use Rattle.std.specs.List.Sorted.{IsPartitionPoint}
@@ -10,14 +10,14 @@ use Rattle.sql_value.specs.declared.value.Value.TheVariants.{Null}
 use Rattle.row_format.specs.declared.schema.Schema.{Schema}
 use Rattle.row_format.specs.Schemas.{same_schema}
 use Rattle.row_format.specs.declared.change.Change.{Change}
-use Rattle.row_format.specs.declared.change.Change.TheVariants.{Create, Insert}
+use Rattle.row_format.specs.declared.change.Change.TheVariants.{Create, Insert, Update}
 use Rattle.log_tables.specs.declared.table.Definition.{Definition}
 use Rattle.log_tables.specs.declared.gist.Prepared.{Prepared}
 use Rattle.log_tables.specs.declared.gist.Gist.{Gist}
 use Rattle.log_tables.specs.declared.table.Table.{Table}
-use Rattle.log_tables.specs.Tables.{table_named}
+use Rattle.log_tables.specs.Tables.{table_named, at_table}
 use Rattle.log_tables.specs.Changes.{with_rows, all_apply}
-use Rattle.log_tables.specs.Keys.{row_with, inserted, IsPlaceFor, IsOrdered}
+use Rattle.log_tables.specs.Keys.{has_key, is_row, inserted, updated, deleted, IsPlaceFor, IsOrdered}
 use Rattle.log_tables.specs.Gists.{has_xid, prepared_with, is_prepared}
 use Rattle.redo_journal.specs.declared.record.Record.{Record}
 use Rattle.redo_journal.specs.declared.record.Record.TheVariants.{SnapTable, SnapRow, SnapLast, Prepare, Commit, Rollback}
@@ -34,10 +34,11 @@ abbrev pub created : Option Change → Option Definition
 created (Some (Create table engine schema)) = Some (record { table = table; engine = engine; schema = schema })
 created _ = None
 
--- the row that a change adds
-abbrev pub inserted_row : Option Change → Option (List Value)
-inserted_row (Some (Insert map row)) = Some row
-inserted_row _ = None
+-- the row that a change puts into a table: that of an Insert, and the one after an Update
+abbrev pub new_row : Option Change → Option (List Value)
+new_row (Some (Insert map row)) = Some row
+new_row (Some (Update map place before after)) = Some after
+new_row _ = None
 
 -- a change of a record that is a Prepare
 abbrev pub change_of : Option Record → ℕ → Option Change
@@ -53,7 +54,7 @@ definition_of _ change = None
 -- the row that a record tells, or a change of it
 abbrev pub row_of : Option Record → ℕ → Option (List Value)
 row_of (Some (SnapRow table row)) change = Some row
-row_of (Some (Prepare it)) change = inserted_row (slice_get it.changes change)
+row_of (Some (Prepare it)) change = new_row (slice_get it.changes change)
 row_of _ change = None
 
 -- the prepared transaction that a record tells
@@ -120,19 +121,30 @@ is_key_below records column key place = is_lt (value_cmp (key_at records column 
 abbrev pub AreParted : List Record → ℕ → Value → List Place → ℕ → Type 0
 AreParted records column key places count = IsPartitionPoint (λ place. is_key_below records column key place ≡ true) (λ place. is_key_below records column key place ≡ false) places count
 
--- what was found for a key among rows in key order: the place for it, or that a row has it
-abbrev pub Finds : ℕ → Value → List (List Value) → Option ℕ → Type 0
-Finds column key rows (Some place) = IsPlaceFor column key rows place
-Finds column key rows None = IsTrue (is_some (row_with column key rows))
+-- what was found for a key among rows in key order: where the row with it stands, or the place for it
+abbrev pub Finds : ℕ → Value → List (List Value) → Result ℕ ℕ → Type 0
+Finds column key rows (Ok place) = (place < length rows) × (has_key column key (get_or rows place []) ≡ true)
+Finds column key rows (Err place) = IsPlaceFor column key rows place
+
+-- the row at a place among rows is this one, and it was looked for by its key, or by this place where there is no key
+pub record IsRowFound (key : Option ℕ) (at : ℕ) (before : List Value) (rows : List (List Value)) (place : ℕ) : Type 0 where
+  pub within : place < length rows
+  pub same : is_row (slice_get rows place) before ≡ true
+  pub by_place : IfNone key (place ≡ at)
+
+-- where the row was found that a change takes out, or that it is not there
+abbrev pub FindsRow : Option ℕ → ℕ → List Value → List (List Value) → Option ℕ → Type 0
+FindsRow key at before rows (Some place) = IsRowFound key at before rows place
+FindsRow key at before rows None = deleted key at before rows ≡ None
 
 -- the table with these rows
 abbrev pub table_of : Table → List (List Value) → Table
 table_of table rows = record { definition = table.definition; rows = rows }
 
--- whether the row was added to the table, and what the index then has
-abbrev pub AddsRow : Bool → List Record → Indexed → List Value → Table → Type 0
-AddsRow false records it row table = inserted table.definition.schema.key row table.rows ≡ None
-AddsRow true records it row table = (rows : List (List Value)) × (inserted table.definition.schema.key row table.rows ≡ Some rows) × IsTableAt records it (table_of table rows)
+-- whether other rows can be made of a table's, and that the index then has them
+abbrev pub HasRows : Bool → List Record → Indexed → Option (List (List Value)) → Table → Type 0
+HasRows false records it rows table = rows ≡ None
+HasRows true records it rows table = (made : List (List Value)) × (rows ≡ Some made) × IsTableAt records it (table_of table made)
 
 -- a row that was made for this schema, or for any, suits what was found as a definition
 abbrev pub suits_at : Option Schema → Option Definition → Bool
@@ -140,22 +152,47 @@ suits_at None definition = true
 suits_at (Some schema) None = false
 suits_at (Some schema) (Some it) = same_schema schema it.schema
 
--- the rows of a table with one more, where it suits and has a place
-abbrev pub rows_with : Option Schema → List Value → Table → Option (List (List Value))
-rows_with schema row table = cond (suits_at schema (Some table.definition)) (inserted table.definition.schema.key row table.rows) None
+-- what a change of rows makes of those of a table, or nothing where it is not possible
+abbrev pub Edit : Type 0
+Edit = Table → Option (List (List Value))
 
--- the row can be added to what was found as a table
-abbrev pub can_add : Option Schema → List Value → Option Table → Bool
-can_add schema row None = false
-can_add schema row (Some table) = is_some (rows_with schema row table)
+-- one row more
+abbrev pub adding : List Value → Edit
+adding row table = inserted table.definition.schema.key row table.rows
 
--- the table with one row more, where it can be added
-abbrev pub added : Option Schema → List Value → Table → List Table
-added schema row table = with_rows table (rows_with schema row table) ∷ []
+-- one row is another
+abbrev pub replacing : ℕ → List Value → List Value → Edit
+replacing at before after table = updated table.definition.schema.key at before after table.rows
+
+-- one row less
+abbrev pub removing : ℕ → List Value → Edit
+removing at before table = deleted table.definition.schema.key at before table.rows
+
+-- the rows that this makes of a table's, where the table suits and it is possible
+abbrev pub rows_with : Option Schema → Edit → Table → Option (List (List Value))
+rows_with schema edit table = cond (suits_at schema (Some table.definition)) (edit table) None
+
+-- it is possible for what was found as a table
+abbrev pub can_edit : Option Schema → Edit → Option Table → Bool
+can_edit schema edit None = false
+can_edit schema edit (Some table) = is_some (rows_with schema edit table)
+
+-- the table with the rows that this makes, where it is possible
+abbrev pub edited : Option Schema → Edit → Table → List Table
+edited schema edit table = with_rows table (rows_with schema edit table) ∷ []
+
+-- Where was a table of this name found that suits a schema? Where none was, no rows of it can be made.
+abbrev pub FindsTable : List Record → List ℕ → Option Schema → List Indexed → Option ℕ → Type 0
+FindsTable records name schema its (Some i) = (position (is_named_at records name) its ≡ Some i) × ((tables : List Table) → AreTablesAt records its tables → IfSome (table_named name tables) (λ it. suits_at schema (Some it.definition) ≡ true))
+FindsTable records name schema its None = (tables : List Table) → AreTablesAt records its tables → (edit : Edit) → can_edit schema edit (table_named name tables) ≡ false
 
 -- the answer is whether it is possible, and where it is, this holds
 abbrev pub Becomes : Bool → Type 0 → Bool → Type 0
 Becomes possible holds answer = (answer ≡ possible) × (answer ≡ true → holds)
+
+-- the answer is whether the rows of the table of this name can be edited, and where they can, the index then has the tables so
+abbrev pub Edits : Option Schema → Edit → List ℕ → List Table → List Record → List Indexed → Bool → Type 0
+Edits schema edit name tables records its answer = Becomes (can_edit schema edit (table_named name tables)) (AreTablesAt records its (at_table name (edited schema edit) tables)) answer
 
 -- what was found as a prepared transaction has this xid
 abbrev pub is_xid : ℕ → Option Prepared → Bool
@@ -214,7 +251,7 @@ can_commit number gist (Some it) = nat_lt gist.last number && all_apply it.chang
 -- what the records before decide of a record's rule
 abbrev pub is_possible : Replay → Record → Bool
 is_possible replay (SnapTable it) = is_none (table_named it.table replay.gist.tables)
-is_possible replay (SnapRow table row) = can_add None row (table_named table replay.gist.tables)
+is_possible replay (SnapRow table row) = can_edit None (adding row) (table_named table replay.gist.tables)
 is_possible replay (SnapLast number) = not replay.numbered
 is_possible replay (Prepare it) = not (is_prepared it.xid replay.gist.prepared)
 is_possible replay (Commit xid number) = can_commit number replay.gist (prepared_with xid replay.gist.prepared)

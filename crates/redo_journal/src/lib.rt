@@ -8,6 +8,8 @@
 #![tactic(auto)]
 
 mod append;
+#[cfg(test)]
+mod change_tests;
 mod choose;
 mod create;
 mod fault;

@@ -2,7 +2,7 @@
 ghost use Rattle.std.specs.Prelude.{◌≡◌, option_map, option_and_then, slice_get};
 ghost use Rattle.std.specs.Option.{option_copied};
 ghost use Rattle.sql_value.specs.Values.{value_cmp};
-ghost use Rattle.redo_journal.specs.Index.{change_at, created, inserted_row, definition_at, row_at, cell_at, key_at, prepared_at};
+ghost use Rattle.redo_journal.specs.Index.{change_at, created, new_row, definition_at, row_at, cell_at, key_at, prepared_at};
 
 use crate::Record;
 use log_tables::Prepared;
@@ -39,12 +39,13 @@ fn created_schema(change: Option<&Change>) -> Option<&Schema>
     }
 }
 
-// The row that a change adds.
-fn inserted_row(change: Option<&Change>) -> Option<&Row>
-    ensures { option_copied result ≡ inserted_row (option_copied change.entry) }
+// The row that a change puts into a table: that of an Insert, and the one after an Update.
+fn new_row(change: Option<&Change>) -> Option<&Row>
+    ensures { option_copied result ≡ new_row (option_copied change.entry) }
 {
     match change {
         Some(Change::Insert { row, .. }) => Some(row),
+        Some(Change::Update { after, .. }) => Some(after),
         _ => None,
     }
 }
@@ -87,7 +88,7 @@ pub(crate) fn row_at(records: &[Record], place: Place) -> Option<&Row>
 {
     match records.get(place.number) {
         Some(Record::SnapRow { row, .. }) => Some(row),
-        Some(Record::Prepare(it)) => inserted_row(it.changes.as_slice().get(place.change)),
+        Some(Record::Prepare(it)) => new_row(it.changes.as_slice().get(place.change)),
         _ => None,
     }
 }
@@ -102,12 +103,19 @@ pub(crate) fn prepared_at(records: &[Record], number: usize) -> Option<&Prepared
     }
 }
 
+/// What a row has in a column.
+pub(crate) fn value_in(row: &Row, column: usize) -> Option<&Value>
+    ensures { option_copied result ≡ slice_get row.now column }
+{
+    row.values().get(column)
+}
+
 /// What the row at this place has in a column.
 pub(crate) fn cell_at(records: &[Record], column: usize, place: Place) -> Option<&Value>
     ensures { option_copied result ≡ cell_at records.now column place }
 {
     match row_at(records, place) {
-        Some(row) => row.values().get(column),
+        Some(row) => value_in(row, column),
         None => None,
     }
 }

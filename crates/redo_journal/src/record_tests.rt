@@ -9,7 +9,7 @@ use binlog_events::items_of;
 use disk_model::{Failed, FileBytes, MemoryStorage};
 use frame_codec::put_frame;
 use log_tables::{Definition, Prepared};
-use row_format::{Name, Row, Schema, name_of, row_of, schema_of};
+use row_format::{Change, Name, Row, Schema, name_of, row_of, schema_of};
 use std::alloc::{AllocError, Global};
 use std::process::Abort;
 use std::test::Fail;
@@ -34,6 +34,13 @@ const LAST: [u8; 8] = [7, 0, 0, 0, 0, 0, 0, 0];
 // The body of a Prepare of the transaction 9, without changes.
 const PREPARE: [u8; 12] = [9, 0, 0, 0, 0, 0, 0, 0, 0, 0, 0, 0];
 
+// The body of a Prepare of the transaction 9 with an UPDATE of that row to (2, NULL), a DELETE of it then, and DROP TABLE t.
+const CHANGES: [u8; 69] = [
+    9, 0, 0, 0, 0, 0, 0, 0, 4, 0, 0, 0, 19, 1, b't', 2, 0, 1, b'k', 8, 0, 1, b'v', 15, 10, 1, 31,
+    0, 0, 0, 0, 0, 1, 0, 0, 0, 0, 0, 0, 0, 1, b'x', 2, 2, 0, 0, 0, 0, 0, 0, 0, 32, 0, 0, 0, 0, 2,
+    2, 0, 0, 0, 0, 0, 0, 0, 2, 3, 1, b't',
+];
+
 // The body of a Commit of the transaction 9 as number 8.
 const COMMIT: [u8; 16] = [9, 0, 0, 0, 0, 0, 0, 0, 8, 0, 0, 0, 0, 0, 0, 0];
 
@@ -43,19 +50,33 @@ const ROLLBACK: [u8; 8] = [9, 0, 0, 0, 0, 0, 0, 0];
 // The body of a Rollback, and one byte more.
 const ROLLBACK_MORE: [u8; 9] = [9, 0, 0, 0, 0, 0, 0, 0, 0];
 
-// The event that a letter stands for: a table, a row, a last number, a Prepare, a Commit, a rollBack; a row of an unknown table, a
-// Rollback with a byte too many, and an event of another type.
+// The event that a letter stands for: a table, a row, a last number, a Prepare, one that changes the row and Drops t, a Commit, a rollBack; a
+// row of an unknown table, a Rollback with a byte too many, and an event of another type.
 fn event_of(letter: u8) -> (u8, &'static [u8]) {
     match letter {
         b't' => (128, &TABLE),
         b'r' => (129, &ROW),
         b'l' => (130, &LAST),
         b'p' => (131, &PREPARE),
+        b'd' => (131, &CHANGES),
         b'c' => (132, &COMMIT),
         b'b' => (133, &ROLLBACK),
         b'u' => (129, &OTHER_ROW),
         b'm' => (133, &ROLLBACK_MORE),
         _ => (134, &ROLLBACK),
+    }
+}
+
+// The letter of a Prepare with these changes.
+fn letter_of_changes(changes: &[Change]) -> u8 {
+    match changes {
+        [] => b'p',
+        [
+            Change::Update { place: 0, .. },
+            Change::Delete { place: 0, .. },
+            Change::Drop { .. },
+        ] => b'd',
+        _ => b'?',
     }
 }
 
@@ -65,7 +86,7 @@ fn letter_of(record: &Record) -> u8 {
         Record::SnapTable(it) if it.table.as_bytes() == b"t".as_slice() => b't',
         Record::SnapRow { table, .. } if table.as_bytes() == b"t".as_slice() => b'r',
         Record::SnapLast { number: 7 } => b'l',
-        Record::Prepare(it) if it.xid == 9 => b'p',
+        Record::Prepare(it) if it.xid == 9 => letter_of_changes(it.changes.as_slice()),
         Record::Commit { xid: 9, number: 8 } => b'c',
         Record::Rollback { xid: 9 } => b'b',
         _ => b'?',
@@ -116,7 +137,7 @@ fn letters_of(alloc: Global, records: &[Record]) -> Result<Vec<u8>, AllocError> 
 #[test]
 fn records_are_read_as_far_as_they_fit(rt: HostRuntime) -> Result<(), Fail> {
     let alloc = rt.alloc();
-    let cases: [(&[u8], usize); 14] = [
+    let cases: [(&[u8], usize); 20] = [
         (b"", 0),
         (b"trlpc", 5),
         (b"trlpb", 5),
@@ -131,6 +152,12 @@ fn records_are_read_as_far_as_they_fit(rt: HostRuntime) -> Result<(), Fail> {
         (b"pbb", 2),
         (b"pcl", 2),
         (b"pc?", 2),
+        (b"trdc", 4),
+        (b"trdct", 5),
+        (b"trpct", 4),
+        (b"trdcr", 4),
+        (b"tdc", 2),
+        (b"dc", 1),
     ];
     for (letters, count) in cases {
         let (area, _) = area_of(&rt, alloc, letters)?;
@@ -274,5 +301,10 @@ fn bodies_are_written_as_they_were_read(rt: HostRuntime) -> Result<(), Fail> {
     };
     let body = prepare_body(alloc, &Prepared { xid: 9, changes })?;
     assert_eq!(rt; body.as_slice(), PREPARE.as_slice());
+    let Some((changes, 61)) = items_of(alloc, &CHANGES[8..])? else {
+        return Err(Fail::from(Failed));
+    };
+    let body = prepare_body(alloc, &Prepared { xid: 9, changes })?;
+    assert_eq!(rt; body.as_slice(), CHANGES.as_slice());
     Ok(())
 }

@@ -5,11 +5,15 @@ use Rattle.std.specs.Str.{bytes_eq}
 use Rattle.std.specs.Cmp.Lexicographic.{pointwise}
 use Rattle.std.proofs.lemmas.Bool.{eqb-true, eq-eqb, and_parts, and_from}
 use Rattle.std.proofs.lemmas.Slice.Eq.{bytes_eq-Decides}
+use Rattle.sql_value.specs.declared.value.Value.{Value}
+use Rattle.sql_value.specs.Values.{same_value}
+use Rattle.sql_value.proofs.SameLemmas.{same_value-true, same_value_refl}
 use Rattle.row_format.specs.declared.schema.Kind.{Kind}
 use Rattle.row_format.specs.declared.schema.Kind.TheVariants.{BigInt, VarChar}
 use Rattle.row_format.specs.declared.schema.Column.{Column}
 use Rattle.row_format.specs.declared.schema.Schema.{Schema}
 use Rattle.row_format.specs.declared.change.TableMap.{TableMap}
+use Rattle.row_format.specs.Rows.{same_row}
 use Rattle.row_format.specs.Schemas.{same_kind, same_flag, same_key, same_column, same_schema, same_map}
 
 pointwise_true : {X : Type 0} (E : X → X → Bool) → ((x y : X) → E x y ≡ true → x ≡ y) → (xs ys : List X) → pointwise E xs ys ≡ true → xs ≡ ys
@@ -86,3 +90,10 @@ same_map-true a b h =
 
 pub same_map_refl : (a : TableMap) → same_map a a ≡ true
 same_map_refl a = and_from (bytes_eq a.table a.table) (same_schema a.schema a.schema) (bytes_refl a.table) (same_schema_refl a.schema)
+
+-- The test of two rows tells that they are one.
+pub same_row-true : (a b : List Value) → same_row a b ≡ true → a ≡ b
+same_row-true a b h = pointwise_true same_value same_value-true a b h
+
+pub same_row_refl : (a : List Value) → same_row a a ≡ true
+same_row_refl a = pointwise_refl same_value same_value_refl a

@@ -1,10 +1,12 @@
 -- Which rows go into a table, and why does another not?
 -- (MySQL 5.7 Server Error Message Reference, ER_WRONG_VALUE_COUNT_ON_ROW, ER_BAD_NULL_ERROR and ER_DATA_TOO_LONG; the order and the
 -- refusal of a wrong type are this project's.)
-use Rattle.std.specs.Prelude.{◌≡◌, ℕ, List, [], ◌∷◌, length, Option, Some, None, cond, ◌==◌, nat_le, slice_get, option_and_then, All, FitsSigned}
+use Rattle.std.specs.Prelude.{◌≡◌, ℕ, List, [], ◌∷◌, length, Option, Some, None, cond, ◌==◌, nat_le, slice_get, option_and_then, Bool, All, FitsSigned}
 use Rattle.std.specs.Int.{w64}
+use Rattle.std.specs.Cmp.Lexicographic.{pointwise}
 use Rattle.sql_value.specs.declared.value.Value.{Value}
 use Rattle.sql_value.specs.declared.value.Value.TheVariants.{Null, Int, Text}
+use Rattle.sql_value.specs.Values.{same_value}
 use Rattle.row_format.specs.declared.schema.Kind.{Kind}
 use Rattle.row_format.specs.declared.schema.Kind.TheVariants.{BigInt, VarChar}
 use Rattle.row_format.specs.declared.schema.Column.{Column}
@@ -56,3 +58,7 @@ pub record IsRow (schema : Schema) (row : List Value) : Type 0 where
 -- the row's value in the key column, where the schema has a key
 abbrev pub key_value : Schema → List Value → Option Value
 key_value schema row = option_and_then (slice_get row) schema.key
+
+-- the two rows have the same values
+abbrev pub same_row : List Value → List Value → Bool
+same_row a b = pointwise same_value a b

@@ -19,16 +19,37 @@ pub enum Change {
     Install {
         name: Name,
     },
+    /// UNINSTALL PLUGIN: the engine is installed no more.
+    Uninstall {
+        name: Name,
+    },
     /// CREATE TABLE: a table of this engine, with this schema.
     Create {
         table: Name,
         engine: Name,
         schema: Schema,
     },
+    /// DROP TABLE: the table is there no more.
+    Drop {
+        table: Name,
+    },
     /// INSERT: one row more in the table.
     Insert {
         map: TableMap,
         row: Row,
+    },
+    /// UPDATE: a row is another now. The place is that of the row before, from 0, or 0 in a table with a key.
+    Update {
+        map: TableMap,
+        place: u32,
+        before: Row,
+        after: Row,
+    },
+    /// DELETE: a row is there no more. The place is that of the row, from 0, or 0 in a table with a key.
+    Delete {
+        map: TableMap,
+        place: u32,
+        before: Row,
     },
 }
 

@@ -27,6 +27,7 @@ pub use laws::{one_name, one_row, one_schema};
 pub use len::{image_len, row_len, schema_len};
 pub use put::{add_counted, add_map, add_row, add_schema, finish, put_name, put_row, put_schema};
 pub use read::{name_of, row_of, schema_of};
+pub use same::{is_same_row, is_same_value};
 pub use schema::{BadSchema, Column, Columns, Kind, Schema};
 pub use sql_value::{BadName, Name, Row, Text, Value};
 pub use take::{take_byte, take_map, take_name, take_row, take_schema};

@@ -1,9 +1,11 @@
-//! Whether two schemas, or two table maps, are the same.
+//! Whether two schemas, two table maps, or two rows, are the same.
 ghost use Rattle.std.specs.Prelude.{◌≡◌};
 ghost use Rattle.std.specs.Cmp.Lexicographic.{pointwise};
+ghost use Rattle.sql_value.specs.Values.{same_value};
 ghost use Rattle.row_format.specs.Schemas.{same_kind, same_column, same_key, same_schema, same_map};
+ghost use Rattle.row_format.specs.Rows.{same_row};
 
-use crate::{Column, Kind, Schema, TableMap};
+use crate::{Column, Kind, Row, Schema, TableMap, Value};
 
 fn is_same_kind(a: Kind, b: Kind) -> bool
     ensures { result ≡ same_kind a b }
@@ -64,4 +66,39 @@ impl TableMap {
     {
         self.table.is_same(&other.table) && self.schema.is_same(&other.schema)
     }
+}
+
+/// Whether two values are the same, NULL and NULL too.
+pub fn is_same_value(a: &Value, b: &Value) -> bool
+    ensures { result ≡ same_value a.now b.now }
+{
+    match (a, b) {
+        (Value::Null, Value::Null) => true,
+        (Value::Int(m), Value::Int(n)) => m == n,
+        (Value::Text(s), Value::Text(t)) => s.is_same(t),
+        _ => false,
+    }
+}
+
+fn is_same_values(a: &[Value], b: &[Value]) -> bool
+    ensures { result ≡ pointwise same_value a.now b.now }
+{
+    if a.len() != b.len() {
+        return false;
+    }
+    let mut i = 0;
+    while i < a.len() {
+        if !is_same_value(&a[i], &b[i]) {
+            return false;
+        }
+        i += 1;
+    }
+    true
+}
+
+/// Whether two rows have the same values.
+pub fn is_same_row(a: &Row, b: &Row) -> bool
+    ensures { result ≡ same_row a.now b.now }
+{
+    is_same_values(a.values(), b.values())
 }

@@ -10,7 +10,7 @@ abbrev pub invariant-loop-i : goal.invariant-loop-i
 invariant-loop-i l = record {
   within : l.i ≤ length l.changes;
   fit : AreFitChanges (drop l.i l.changes);
-  small : l.sum ≤ 4096 * l.i;
+  small : l.sum ≤ 5300 * l.i;
   so_far : l.sum + sum_by size_of (change_events (option_copied l.before) (drop l.i l.changes)) ≡ sum_by size_of (change_events None l.changes);
 }
 

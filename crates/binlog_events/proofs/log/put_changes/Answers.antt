@@ -38,6 +38,6 @@ loop-i-preserved c =
       done = (
         done.0 ++ own,
         chains_then (Ok c.in_ok-end.end) c.args.start c.loop-i.end c.args.out.now.items c.loop-i.out.items c.put_change.new.out.items done.0 own done.1 c.in_ok-end.ensures.chains,
-        ap (λ (o : Option TableMap). (done.0 ++ own) ++ change_events o (drop (c.loop-i.i + 1) c.args.changes.now)) c.own_map-before.ensures ∙ append_assoc done.0 own more ∙ all,
+        ap (λ (o : Option TableMap). (done.0 ++ own) ++ change_events o (drop (c.loop-i.i + 1) c.args.changes.now)) c.own_map-before.ensures.value ∙ append_assoc done.0 own more ∙ all,
       );
     }

@@ -1,6 +1,7 @@
-use Rattle.std.proofs.Common.{◌∙◌, position, sym, ap}
+use Rattle.std.proofs.Common.{◌∙◌, position, sym, ap, subst}
 use Rattle.log_tables.specs.Gists.{has_xid}
 use Rattle.log_tables.specs.Changes.{after_changes, all_apply}
+use Rattle.live_tables.specs.Folds.{AreMade}
 use Rattle.live_tables.specs.Live.{Live}
 use Rattle.live_tables.proofs.OpenLemmas.{found_nowhere, found_there}
 use Rattle.live_tables.proofs.LeftLemmas.{some_in_left, can_told, is_left}
@@ -16,7 +17,8 @@ returns-then-self-number-clause-left c =
     let tables = c.deref-then-self-number.ensures.value in
     let done = c.deref-then-self-number-2.ensures.value in
     let fit = ap (λ l. all_apply l c.deref-then-self-number.result.now) done ∙ ap (λ ts. all_apply it.done.items ts) tables ∙ c.self.invariant.0.done_fit in
-    let told = c.all_fit.ensures fit
+    let made = subst AreMade (sym tables) c.self.invariant.0.made in
+    let told = c.all_fit.ensures made fit
     ∙ ap (λ l. all_apply l (after_changes c.deref-then-self-number-2.result.now c.deref-then-self-number.result.now)) c.as_slice.ensures
     ∙ ap (λ l. all_apply out.changes (after_changes l c.deref-then-self-number.result.now)) done
     ∙ ap (λ ts. all_apply out.changes (after_changes it.done.items ts)) tables in

@@ -13,7 +13,7 @@ invariant_of-self c =
     let it = c.self.inside in
     let same : c.take.new.pending.items ≡ it.pending.items = c.in_default.ensures.rest ∙ without_absent c.args.txn it.pending.items (sym c.in_default.ensures.found) in (
       subst (λ (ps : List Pending). AreSound it.tables.items it.done.items it.left.items ps) (sym same) c.self.invariant.0,
-      subst (λ (ps : List Pending). AreCounted it.tables.items it.done.items it.left.items ps it.committed it.opened it.waiting) (sym same) c.self.invariant.1,
+      subst (λ (ps : List Pending). AreCounted it.tables.items it.done.items it.left.items ps it.committed it.opened it.waits it.waiting) (sym same) c.self.invariant.1,
       c.self.invariant.2,
     )
 
@@ -28,14 +28,14 @@ pub overflow_sub-self : goal.overflow_sub-self
 overflow_sub-self c =
     let it = c.self.inside in
     let bytes = c.changes_len.ensures ∙ ap (λ l. capped (sum_by change_bytes l)) (c.changes.ensures) in
-    (enough c.args.txn c.in-Some.it it.tables.items it.done.items it.left.items it.pending.items it.committed it.opened it.waiting c.changes_len.result c.self.invariant.0.distinct c.self.invariant.1 c.in-Some.ensures.found bytes).0
+    (enough c.args.txn c.in-Some.it it.tables.items it.done.items it.left.items it.pending.items it.committed it.opened it.waits it.waiting c.changes_len.result c.self.invariant.0.distinct c.self.invariant.1 c.in-Some.ensures.found bytes).0
 
 pub overflow_sub-self-2 : goal.overflow_sub-self-2
 overflow_sub-self-2 c =
     let it = c.self.inside in
     let bytes = c.changes_len.ensures ∙ ap (λ l. capped (sum_by change_bytes l)) (c.changes.ensures) in
     let own : c.changes-2.result.now ≡ c.in-Some.it.changes = c.changes-2.ensures in
-    let all = (enough c.args.txn c.in-Some.it it.tables.items it.done.items it.left.items it.pending.items it.committed it.opened it.waiting c.changes_len.result c.self.invariant.0.distinct c.self.invariant.1 c.in-Some.ensures.found bytes).1 in
+    let all = (enough c.args.txn c.in-Some.it it.tables.items it.done.items it.left.items it.pending.items it.committed it.opened it.waits it.waiting c.changes_len.result c.self.invariant.0.distinct c.self.invariant.1 c.in-Some.ensures.found bytes).1 in
     omega (arith, all, ap length own)
 
 pub invariant_of-self-2 : goal.invariant_of-self-2
@@ -44,11 +44,11 @@ invariant_of-self-2 c =
     let bytes = c.changes_len.ensures ∙ ap (λ l. capped (sum_by change_bytes l)) (c.changes.ensures) in
     let own : c.changes-2.result.now ≡ c.in-Some.it.changes = c.changes-2.ensures in
     let rest = c.in-Some.ensures.rest in
-    let counted = counted_without c.args.txn c.in-Some.it it.tables.items it.done.items it.left.items it.pending.items it.committed it.opened it.waiting c.changes_len.result
-    c.self.invariant.0.distinct (omega (arith, c.self.ranges)) c.self.invariant.1 c.in-Some.ensures.found bytes in (
+    let counted = counted_without c.args.txn c.in-Some.it it.tables.items it.done.items it.left.items it.pending.items it.committed it.opened it.waits it.waiting c.changes_len.result
+    c.self.invariant.0.distinct c.self.invariant.1 c.in-Some.ensures.found bytes in (
       subst (λ (ps : List Pending). AreSound it.tables.items it.done.items it.left.items ps) (sym rest) (sound_rolled_back c.args.txn it.tables.items it.done.items it.left.items it.pending.items c.self.invariant.0),
-      subst (λ (cs : ℕ). AreCounted it.tables.items it.done.items it.left.items c.take.new.pending.items it.committed (it.opened - c.changes_len.result) (it.waiting - cs)) (sym (ap length own))
-          (subst (λ (ps : List Pending). AreCounted it.tables.items it.done.items it.left.items ps it.committed (it.opened - c.changes_len.result) (it.waiting - length c.in-Some.it.changes)) (sym rest) counted),
+      subst (λ (cs : ℕ). AreCounted it.tables.items it.done.items it.left.items c.take.new.pending.items it.committed (it.opened - c.changes_len.result) it.waits (it.waiting - cs)) (sym (ap length own))
+          (subst (λ (ps : List Pending). AreCounted it.tables.items it.done.items it.left.items ps it.committed (it.opened - c.changes_len.result) it.waits (it.waiting - length c.in-Some.it.changes)) (sym rest) counted),
       omega (arith, c.self.invariant.2),
     )
 

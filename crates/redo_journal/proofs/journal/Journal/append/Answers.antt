@@ -1,5 +1,5 @@
 use Rattle.std.proofs.Common.{IsTrue, subst, sym}
-use Rattle.redo_journal.proofs.AppendLemmas.{rest_more, one_more_holds, then_holds, spells_as, goes_fit, goes_next, goes_on_files}
+use Rattle.redo_journal.proofs.AppendLemmas.{rest_more, one_more_holds, then_holds, spells_as, goes_fit}
 use Rattle.redo_journal.proofs.journal.Journal.append.Goals as goal
 
 pub spell_entry-requires : goal.spell_entry-requires
