@@ -1,13 +1,14 @@
 -- What is so of the gists that records stand for, record by record.
-use Rattle.std.proofs.Common.{◌≡◌, ℕ, ◌<◌, List, [], ◌∷◌, ◌++◌, Option, Some, None, true, false, inl, inr, refl, sym, ap, subst, ◌∙◌, arith}
-use Rattle.std.specs.Prelude.{◌^◌, is_some, is_none, not}
+use Rattle.std.proofs.Common.{◌≡◌, ℕ, zero, suc, set, Bool, cond, ◌<◌, List, [], ◌∷◌, ◌++◌, Option, Some, None, true, false, inl, inr, refl, sym, ap, subst, ◌∙◌, arith}
+use Rattle.std.specs.Prelude.{◌^◌, is_some, is_none, not, slice_get}
+use Rattle.std.specs.List.{remove}
 use Rattle.std.specs.Ordering.{is_lt}
 use Rattle.sql_value.specs.declared.value.Value.{Value}
 use Rattle.sql_value.specs.Values.{value_cmp}
 use Rattle.row_format.specs.declared.schema.Schema.{Schema}
 use Rattle.row_format.specs.declared.change.TableMap.{TableMap}
 use Rattle.row_format.specs.declared.change.Change.{Change}
-use Rattle.row_format.specs.declared.change.Change.TheVariants.{Install, Create, Insert}
+use Rattle.row_format.specs.declared.change.Change.TheVariants.{Install, Uninstall, Create, Drop, Insert, Update, Delete}
 use Rattle.row_format.specs.Schemas.{same_schema}
 use Rattle.row_format.specs.Rows.{IsRow}
 use Rattle.row_format.specs.Changes.{IsFitChange, AreFitChanges}
@@ -17,12 +18,12 @@ use Rattle.log_tables.specs.declared.table.Definition.{Definition}
 use Rattle.log_tables.specs.declared.table.Table.{Table}
 use Rattle.log_tables.specs.declared.gist.Prepared.{Prepared}
 use Rattle.log_tables.specs.declared.gist.Gist.{Gist}
-use Rattle.log_tables.specs.Keys.{key_in, row_with, in_key_order, inserted, IsOrdered}
+use Rattle.log_tables.specs.Keys.{key_in, has_key, row_with, without_key, in_key_order, is_row, inserted, deleted, updated, IsOrdered}
 use Rattle.log_tables.specs.Tables.{is_named, table_named, at_table, new_table}
 use Rattle.log_tables.specs.Changes.{with_rows, rows_after, changed, after_change, after_changes}
 use Rattle.log_tables.specs.Gists.{has_xid, prepared_with, is_prepared, without_xid}
 use Rattle.log_tables.proofs.PartLemmas.{cases, cond_true, cond_false, IsDictionary-after_change}
-use Rattle.log_tables.proofs.OrderLemmas.{IsOrdered-inserted}
+use Rattle.log_tables.proofs.OrderLemmas.{IsOrdered-inserted, IsOrdered-deleted, IsOrdered-updated, kept, gone}
 use Rattle.engine_api.specs.States.{EngineState, begun_state}
 use Rattle.engine_api.specs.Live.{schema_found}
 use Rattle.live_tables.specs.Opens.{HaveOwnXids}
@@ -64,42 +65,108 @@ rows_inserted schema (Some column) row rows one are = elim (cases (is_some (row_
   | inr free ↦ subst (AreRowsIn schema) (sym (cond_false (is_some (row_with column (key_in column row) rows)) None (Some (in_key_order column row rows)) free)) (rows_in_order schema column row rows one are)
 ]
 
+rows_without : (schema : Schema) (column : ℕ) (key : Value) (rows : List (List Value)) → AreRows schema rows → AreRows schema (without_key column key rows)
+rows_without schema column key [] are = tt
+rows_without schema column key (it ∷ rows) are = elim (cases (has_key column key it)) [
+  | inl own ↦ subst (AreRows schema) (sym (gone column key it rows own)) (rows_without schema column key rows are.1)
+  | inr other ↦ subst (AreRows schema) (sym (kept column key it rows other)) (are.0, rows_without schema column key rows are.1)
+]
+
+rows_removed : (schema : Schema) (i : ℕ) (rows : List (List Value)) → AreRows schema rows → AreRows schema (remove rows i)
+rows_removed schema zero [] are = tt
+rows_removed schema (suc i) [] are = tt
+rows_removed schema zero (it ∷ rows) are = are.1
+rows_removed schema (suc i) (it ∷ rows) are = (are.0, rows_removed schema i rows are.1)
+
+rows_set : (schema : Schema) (i : ℕ) (row : List Value) (rows : List (List Value)) → IsRow schema row → AreRows schema rows → AreRows schema (set rows i row)
+rows_set schema i row [] one are = tt
+rows_set schema zero row (it ∷ rows) one are = (one, are.1)
+rows_set schema (suc i) row (it ∷ rows) one are = (are.0, rows_set schema i row rows one are.1)
+
+rows_if : (schema : Schema) (b : Bool) (o : Option (List (List Value))) → AreRowsIn schema o → AreRowsIn schema (cond b o None)
+rows_if schema true o are = are
+rows_if schema false o are = tt
+
+rows_deleted : (schema : Schema) (key : Option ℕ) (place : ℕ) (before : List Value) (rows : List (List Value)) → AreRows schema rows → AreRowsIn schema (deleted key place before rows)
+rows_deleted schema None place before rows are = rows_if schema (is_row (slice_get rows place) before) (Some (remove rows place)) (rows_removed schema place rows are)
+rows_deleted schema (Some column) place before rows are =
+    rows_if schema (is_row (row_with column (key_in column before) rows) before) (Some (without_key column (key_in column before) rows)) (rows_without schema column (key_in column before) rows are)
+
+rows_updated : (schema : Schema) (key : Option ℕ) (place : ℕ) (before after : List Value) (rows : List (List Value)) → IsRow schema after → AreRows schema rows
+    → AreRowsIn schema (updated key place before after rows)
+rows_updated schema None place before after rows one are = rows_if schema (is_row (slice_get rows place) before) (Some (set rows place after)) (rows_set schema place after rows one are)
+rows_updated schema (Some column) place before after rows one are =
+    rows_if schema (is_row (row_with column (key_in column before) rows) before) (inserted (Some column) after (without_key column (key_in column before) rows))
+    (rows_inserted schema (Some column) after (without_key column (key_in column before) rows) one (rows_without schema column (key_in column before) rows are))
+
 -- Tables.
 
 -- where rows were made, the table is fit with them
 abbrev IsFitWith : Table → Option (List (List Value)) → Type 0
 IsFitWith table o = IsFitTable (with_rows table o)
 
-table_row : (row : List Value) (table : Table) → IsRow table.definition.schema row → IsFitTable table → IsFitWith table (inserted table.definition.schema.key row table.rows)
-table_row row table one fit = made (inserted table.definition.schema.key row table.rows) refl
-  where
-    made : (o : Option (List (List Value))) → inserted table.definition.schema.key row table.rows ≡ o → IsFitWith table o
-    made None is = fit
-    made (Some rows) is = record {
-      definition = fit.definition;
-      rows = subst (AreRowsIn table.definition.schema) is (rows_inserted table.definition.schema table.definition.schema.key row table.rows one fit.rows);
-      in_order = IsOrdered-inserted table.definition.schema.key row table.rows rows is fit.in_order;
-    }
+-- a row change that makes rows of the schema, in order, of those that are
+record Keeps (change : Change) : Type 0 where
+  keeps : (table : Table) → IsFitTable table → IsFitWith table (rows_after change table)
 
-table_changed : (map : TableMap) (row : List Value) (table : Table) → IsRow map.schema row → IsFitTable table → IsFitWith table (rows_after (Insert map row) table)
-table_changed map row table one fit = elim (cases (same_schema map.schema table.definition.schema)) [
-  | inl same ↦
-      let own = subst (λ (s : Schema). IsRow s row) (same_schema-true map.schema table.definition.schema same) one in
-      subst (IsFitWith table) (sym (cond_true (same_schema map.schema table.definition.schema) (inserted table.definition.schema.key row table.rows) None same)) (table_row row table own fit)
-  | inr other ↦ subst (IsFitWith table) (sym (cond_false (same_schema map.schema table.definition.schema) (inserted table.definition.schema.key row table.rows) None other)) fit
+fit_with : (table : Table) (map : TableMap) (o : Option (List (List Value))) → IsFitTable table
+    → (map.schema ≡ table.definition.schema → AreRowsIn table.definition.schema o × ((rows : List (List Value)) → o ≡ Some rows → IsOrdered table.definition.schema.key rows))
+    → IsFitWith table (cond (same_schema map.schema table.definition.schema) o None)
+fit_with table map o fit makes = elim (cases (same_schema map.schema table.definition.schema)) [
+  | inl same ↦ subst (IsFitWith table) (sym (cond_true (same_schema map.schema table.definition.schema) o None same)) (made o (makes (same_schema-true map.schema table.definition.schema same)))
+  | inr other ↦ subst (IsFitWith table) (sym (cond_false (same_schema map.schema table.definition.schema) o None other)) fit
 ]
+  where
+    made : (o : Option (List (List Value))) → AreRowsIn table.definition.schema o × ((rows : List (List Value)) → o ≡ Some rows → IsOrdered table.definition.schema.key rows) → IsFitWith table o
+    made None both = fit
+    made (Some rows) both = record { definition = fit.definition; rows = both.0; in_order = both.1 rows refl }
+
+keeps_insert : (map : TableMap) (row : List Value) → IsRow map.schema row → Keeps (Insert map row)
+keeps_insert map row one = record {
+  keeps = λ table fit.
+      let key = table.definition.schema.key in
+      fit_with table map (inserted key row table.rows) fit (λ same. (
+        rows_inserted table.definition.schema key row table.rows (subst (λ (s : Schema). IsRow s row) same one) fit.rows,
+        λ rows is. IsOrdered-inserted key row table.rows rows is fit.in_order,
+      ));
+}
+
+keeps_update : (map : TableMap) (place : ℕ) (before after : List Value) → IsRow map.schema after → Keeps (Update map place before after)
+keeps_update map place before after one = record {
+  keeps = λ table fit.
+      let key = table.definition.schema.key in
+      fit_with table map (updated key place before after table.rows) fit (λ same. (
+        rows_updated table.definition.schema key place before after table.rows (subst (λ (s : Schema). IsRow s after) same one) fit.rows,
+        λ rows is. IsOrdered-updated key place before after table.rows rows is fit.in_order,
+      ));
+}
+
+keeps_delete : (map : TableMap) (place : ℕ) (before : List Value) → Keeps (Delete map place before)
+keeps_delete map place before = record {
+  keeps = λ table fit.
+      let key = table.definition.schema.key in
+      fit_with table map (deleted key place before table.rows) fit (λ same. (
+        rows_deleted table.definition.schema key place before table.rows fit.rows,
+        λ rows is. IsOrdered-deleted key place before table.rows rows is fit.in_order,
+      ));
+}
 
 tables_append : (ts us : List Table) → AreFitTables ts → AreFitTables us → AreFitTables (ts ++ us)
 tables_append [] us of_ts of_us = of_us
 tables_append (t ∷ ts) us of_ts of_us = (of_ts.0, tables_append ts us of_ts.1 of_us)
 
-tables_insert : (map : TableMap) (row : List Value) (name : List ℕ) (ts : List Table) → IsRow map.schema row → AreFitTables ts → AreFitTables (at_table name (changed (Insert map row)) ts)
-tables_insert map row name [] one fit = tt
-tables_insert map row name (t ∷ ts) one fit = elim (cases (is_named name t)) [
-  | inl here ↦
-      subst AreFitTables (sym (cond_true (is_named name t) (changed (Insert map row) t ++ ts) (t ∷ at_table name (changed (Insert map row)) ts) here)) (table_changed map row t one fit.0, fit.1)
-  | inr past ↦
-      subst AreFitTables (sym (cond_false (is_named name t) (changed (Insert map row) t ++ ts) (t ∷ at_table name (changed (Insert map row)) ts) past)) (fit.0, tables_insert map row name ts one fit.1)
+tables_changed : (change : Change) (name : List ℕ) (ts : List Table) → Keeps change → AreFitTables ts → AreFitTables (at_table name (changed change) ts)
+tables_changed change name [] one fit = tt
+tables_changed change name (t ∷ ts) one fit = elim (cases (is_named name t)) [
+  | inl here ↦ subst AreFitTables (sym (cond_true (is_named name t) (changed change t ++ ts) (t ∷ at_table name (changed change) ts) here)) (one.keeps t fit.0, fit.1)
+  | inr past ↦ subst AreFitTables (sym (cond_false (is_named name t) (changed change t ++ ts) (t ∷ at_table name (changed change) ts) past)) (fit.0, tables_changed change name ts one fit.1)
+]
+
+tables_dropped : (name : List ℕ) (ts : List Table) → AreFitTables ts → AreFitTables (at_table name (λ _. []) ts)
+tables_dropped name [] fit = tt
+tables_dropped name (t ∷ ts) fit = elim (cases (is_named name t)) [
+  | inl here ↦ subst AreFitTables (sym (cond_true (is_named name t) ts (t ∷ at_table name (λ _. []) ts) here)) fit.1
+  | inr past ↦ subst AreFitTables (sym (cond_false (is_named name t) ts (t ∷ at_table name (λ _. []) ts) past)) (fit.0, tables_dropped name ts fit.1)
 ]
 
 no_rows_in_order : (key : Option ℕ) → IsOrdered key []
@@ -120,7 +187,20 @@ tables_after (Create table engine schema) ts fit can = record {
   fit = tables_create (record { table = table; engine = engine; schema = schema }) ts (record { table = fit.0; engine = fit.1; schema = fit.2 }) can.fit;
   dictionary = IsDictionary-after_change (Create table engine schema) ts can.dictionary;
 }
-tables_after (Insert map row) ts fit can = record { fit = tables_insert map row map.table ts fit.1 can.fit; dictionary = IsDictionary-after_change (Insert map row) ts can.dictionary }
+tables_after (Uninstall name) ts fit can = can
+tables_after (Drop table) ts fit can = record { fit = tables_dropped table ts can.fit; dictionary = IsDictionary-after_change (Drop table) ts can.dictionary }
+tables_after (Insert map row) ts fit can = record {
+  fit = tables_changed (Insert map row) map.table ts (keeps_insert map row fit.1) can.fit;
+  dictionary = IsDictionary-after_change (Insert map row) ts can.dictionary;
+}
+tables_after (Update map place before after) ts fit can = record {
+  fit = tables_changed (Update map place before after) map.table ts (keeps_update map place before after fit.1) can.fit;
+  dictionary = IsDictionary-after_change (Update map place before after) ts can.dictionary;
+}
+tables_after (Delete map place before) ts fit can = record {
+  fit = tables_changed (Delete map place before) map.table ts (keeps_delete map place before) can.fit;
+  dictionary = IsDictionary-after_change (Delete map place before) ts can.dictionary;
+}
 
 tables_behind : (changes : List Change) (ts : List Table) → AreFitChanges changes → CanBeTables ts → CanBeTables (after_changes changes ts)
 tables_behind [] ts fit can = can
@@ -142,7 +222,7 @@ row_snapped name row gist None is may can = absurd may
 row_snapped name row gist (Some table) is may can =
     let map : TableMap = record { table = name; schema = table.definition.schema } in
     subst CanBeTables (row_added_there map name row (begun_state gist) refl refl (sym (ap schema_found is)))
-    (record { fit = tables_insert map row name gist.tables may.0 can.fit; dictionary = IsDictionary-after_change (Insert map row) gist.tables can.dictionary })
+    (record { fit = tables_changed (Insert map row) name gist.tables (keeps_insert map row may.0) can.fit; dictionary = IsDictionary-after_change (Insert map row) gist.tables can.dictionary })
 
 -- What is prepared.
 

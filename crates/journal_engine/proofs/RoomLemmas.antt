@@ -9,7 +9,7 @@ use Rattle.frame_codec.proofs.FrameLemmas.{length-le32, length-le64}
 use Rattle.framed_file.specs.Framed.{header_len}
 use Rattle.row_format.specs.declared.change.TableMap.{TableMap}
 use Rattle.row_format.specs.declared.change.Change.{Change}
-use Rattle.row_format.specs.declared.change.Change.TheVariants.{Install, Create, Insert}
+use Rattle.row_format.specs.declared.change.Change.TheVariants.{Install, Uninstall, Create, Drop, Insert, Update, Delete}
 use Rattle.binlog_events.specs.Changes.{map_event, change_event, map_of, needs_map, map_events, change_events}
 use Rattle.binlog_events.specs.Items.{item_spelling, items_of_changes, list_spelling, AreListed}
 use Rattle.log_tables.specs.declared.gist.Prepared.{Prepared}
@@ -28,15 +28,19 @@ use Rattle.engine_api.specs.States.{EngineState, share_of}
 use Rattle.journal_engine.specs.Engine.{AreWritable, gist_of, is_spent}
 use Rattle.journal_engine.proofs.RecordLemmas.{ends_on}
 
+a_map : (map : TableMap) (b : Bool) → length (cond b (map_event map ∷ []) []) ≤ 1
+a_map map true = omega arith
+a_map map false = omega arith
+
 -- one map stands before a change at most
 one_map : (before : Option TableMap) (it : Change) → length (map_events before it) ≤ 1
 one_map before (Install name) = omega arith
 one_map before (Create table engine schema) = omega arith
-one_map before (Insert map row) = of (needs_map before map)
-  where
-    of : (b : Bool) → length (cond b (map_event map ∷ []) []) ≤ 1
-    of true = omega arith
-    of false = omega arith
+one_map before (Insert map row) = a_map map (needs_map before map)
+one_map before (Update map place old new) = a_map map (needs_map before map)
+one_map before (Delete map place old) = a_map map (needs_map before map)
+one_map before (Uninstall name) = omega arith
+one_map before (Drop table) = omega arith
 
 -- Changes have at least as many items, and at most twice as many.
 pub items_least : (before : Option TableMap) (changes : List Change) → length changes ≤ length (change_events before changes)

@@ -7,7 +7,7 @@ use Rattle.sql_value.specs.declared.value.Value.{Value}
 use Rattle.sql_value.specs.Names.{IsName}
 use Rattle.row_format.specs.declared.schema.Schema.{Schema}
 use Rattle.row_format.specs.declared.change.Change.{Change}
-use Rattle.row_format.specs.declared.change.Change.TheVariants.{Install, Create, Insert}
+use Rattle.row_format.specs.declared.change.Change.TheVariants.{Install, Uninstall, Create, Drop, Insert, Update, Delete}
 use Rattle.row_format.specs.Schemas.{IsSchema}
 use Rattle.row_format.specs.Changes.{IsFitChange, AreFitChanges}
 use Rattle.binlog_events.specs.Items.{is_on_table}
@@ -99,13 +99,24 @@ schemas_at name change (t ∷ ts) have = elim (cases (is_named name t)) [
   | inr other ↦ subst HaveSchemas (sym (cond_false (is_named name t) (changed change t ++ ts) (t ∷ at_table name (changed change) ts) other)) (have.0, schemas_at name change ts have.1)
 ]
 
+schemas_dropped : (name : List ℕ) (ts : List Table) → HaveSchemas ts → HaveSchemas (at_table name (λ _. []) ts)
+schemas_dropped name [] have = tt
+schemas_dropped name (t ∷ ts) have = elim (cases (is_named name t)) [
+  | inl own ↦ subst HaveSchemas (sym (cond_true (is_named name t) ts (t ∷ at_table name (λ _. []) ts) own)) have.1
+  | inr other ↦ subst HaveSchemas (sym (cond_false (is_named name t) ts (t ∷ at_table name (λ _. []) ts) other)) (have.0, schemas_dropped name ts have.1)
+]
+
 schemas_after : (change : Change) (ts : List Table) → IsFitChange change → HaveSchemas ts → HaveSchemas (after_change change ts)
 schemas_after (Install name) ts fit have = have
 schemas_after (Create table engine schema) ts fit have = elim (cases (is_some (table_named table ts))) [
   | inl there ↦ subst HaveSchemas (sym (cond_true (is_some (table_named table ts)) ts (ts ++ new_table table engine schema ∷ []) there)) have
   | inr free ↦ subst HaveSchemas (sym (cond_false (is_some (table_named table ts)) ts (ts ++ new_table table engine schema ∷ []) free)) (schemas_append ts (new_table table engine schema ∷ []) have (fit.2, tt))
 ]
+schemas_after (Uninstall name) ts fit have = have
+schemas_after (Drop table) ts fit have = schemas_dropped table ts have
 schemas_after (Insert map row) ts fit have = schemas_at map.table (Insert map row) ts have
+schemas_after (Update map place before after) ts fit have = schemas_at map.table (Update map place before after) ts have
+schemas_after (Delete map place before) ts fit have = schemas_at map.table (Delete map place before) ts have
 
 pub schemas_behind : (changes : List Change) (ts : List Table) → AreFitChanges changes → HaveSchemas ts → HaveSchemas (after_changes changes ts)
 schemas_behind [] ts fit have = have

@@ -31,6 +31,7 @@ fn copy_change(alloc: Global, change: &Change) -> Result<Change, AllocError>
 {
     match change {
         Change::Install { name } => Ok(Change::Install { name: name.copy()? }),
+        Change::Uninstall { name } => Ok(Change::Uninstall { name: name.copy()? }),
         Change::Create {
             table,
             engine,
@@ -40,9 +41,28 @@ fn copy_change(alloc: Global, change: &Change) -> Result<Change, AllocError>
             engine: engine.copy()?,
             schema: schema.copy(alloc)?,
         }),
+        Change::Drop { table } => Ok(Change::Drop {
+            table: table.copy()?,
+        }),
         Change::Insert { map, row } => Ok(Change::Insert {
             map: map.copy(alloc)?,
             row: copy_row(alloc, row)?,
+        }),
+        Change::Update {
+            map,
+            place,
+            before,
+            after,
+        } => Ok(Change::Update {
+            map: map.copy(alloc)?,
+            place: *place,
+            before: copy_row(alloc, before)?,
+            after: copy_row(alloc, after)?,
+        }),
+        Change::Delete { map, place, before } => Ok(Change::Delete {
+            map: map.copy(alloc)?,
+            place: *place,
+            before: copy_row(alloc, before)?,
         }),
     }
 }
