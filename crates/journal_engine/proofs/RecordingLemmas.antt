@@ -1,6 +1,6 @@
 -- What is so of the gists that records stand for, record by record.
 use Rattle.std.proofs.Common.{◌≡◌, ℕ, zero, suc, set, Bool, cond, ◌<◌, List, [], ◌∷◌, ◌++◌, Option, Some, None, true, false, inl, inr, refl, sym, ap, subst, ◌∙◌, arith}
-use Rattle.std.specs.Prelude.{◌^◌, is_some, is_none, not, slice_get}
+use Rattle.std.specs.Prelude.{◌^◌, is_some, is_none, not, slice_get, option_and_then}
 use Rattle.std.specs.List.{remove}
 use Rattle.std.specs.Ordering.{is_lt}
 use Rattle.sql_value.specs.declared.value.Value.{Value}
@@ -92,12 +92,16 @@ rows_deleted schema None place before rows are = rows_if schema (is_row (slice_g
 rows_deleted schema (Some column) place before rows are =
     rows_if schema (is_row (row_with column (key_in column before) rows) before) (Some (without_key column (key_in column before) rows)) (rows_without schema column (key_in column before) rows are)
 
+rows_moved : (schema : Schema) (column : ℕ) (after : List Value) (o : Option (List (List Value))) → IsRow schema after → AreRowsIn schema o
+    → AreRowsIn schema (option_and_then (inserted (Some column) after) o)
+rows_moved schema column after None one are = tt
+rows_moved schema column after (Some rows) one are = rows_inserted schema (Some column) after rows one are
+
 rows_updated : (schema : Schema) (key : Option ℕ) (place : ℕ) (before after : List Value) (rows : List (List Value)) → IsRow schema after → AreRows schema rows
     → AreRowsIn schema (updated key place before after rows)
 rows_updated schema None place before after rows one are = rows_if schema (is_row (slice_get rows place) before) (Some (set rows place after)) (rows_set schema place after rows one are)
 rows_updated schema (Some column) place before after rows one are =
-    rows_if schema (is_row (row_with column (key_in column before) rows) before) (inserted (Some column) after (without_key column (key_in column before) rows))
-    (rows_inserted schema (Some column) after (without_key column (key_in column before) rows) one (rows_without schema column (key_in column before) rows are))
+    rows_moved schema column after (deleted (Some column) place before rows) one (rows_deleted schema (Some column) place before rows are)
 
 -- Tables.
 
