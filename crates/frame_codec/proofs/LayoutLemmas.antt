@@ -1,11 +1,11 @@
 -- Lemmas on a frame's layout: its header, its front, and what stands where in it.
-use Rattle.std.proofs.Common.{◌≡◌, ℕ, ◌+◌, List, [], ◌∷◌, ◌++◌, length, get_or, take, drop, ◌-◌, refl, sym, ◌∙◌, ap, arith, append_assoc, length-append}
-use Rattle.std.proofs.lemmas.List.{drop_at, take_rest}
+use Rattle.std.proofs.Common.{◌≡◌, ℕ, ◌+◌, List, [], ◌∷◌, ◌++◌, length, get_or, take, drop, refl, sym, ◌∙◌, ap, append_assoc}
+use Rattle.std.proofs.lemmas.List.{drop_at}
 use Rattle.std.specs.Int.{w32, to_le_bytes}
 use Rattle.frame_codec.specs.Bytes.{le16, le32}
 use Rattle.frame_codec.specs.Crc.{crc_of}
 use Rattle.frame_codec.specs.Frame.{Event, size_of, front_of, checksum_of, frame_of}
-use Rattle.frame_codec.specs.Header.{header_of}
+use Rattle.frame_codec.specs.Header.{header_of, head_of}
 
 -- the bytes that the code makes of a number
 pub le32-bytes : (n : ℕ) → to_le_bytes w32 n ≡ le32 n
@@ -30,34 +30,28 @@ front_of-header at event = refl
 
 -- ---- writing
 
--- where the new bytes start, from how many there are
-pub start_put : (start : ℕ) (old header body lent : List ℕ) → lent ≡ old ++ header ++ body → length lent ≡ start + length header + length body → start ≡ length old
-start_put start old header body lent is_lent long =
-    omega (arith, ap length is_lent ∙ length-append (old ++ header) body, length-append old header)
-
--- what stands behind the old bytes is the front of the frame
-front_put : (at start : ℕ) (event : Event) (old header lent : List ℕ) → start ≡ length old → lent ≡ old ++ header ++ event.body
-    → header ≡ header_of event.kind (size_of event) (at + size_of event) → drop start lent ≡ front_of at event
-front_put at start event old header lent at_end is_lent is_header =
-    ap (drop start) (is_lent ∙ append_assoc old header event.body) ∙ drop_at old (header ++ event.body) start (sym at_end)
-    ∙ ap (λ bytes. bytes ++ event.body) is_header ∙ sym (front_of-header at event)
+-- what was begun and given its body is the front of the frame, behind the old bytes
+pub front_put : (at len : ℕ) (event : Event) (old begun filled : List ℕ) → len ≡ length event.body → begun ≡ old ++ head_of at event.kind len
+    → filled ≡ begun ++ event.body → filled ≡ old ++ front_of at event
+front_put at len event old begun filled long is_begun is_filled =
+    is_filled ∙ ap (λ (bytes : List ℕ). bytes ++ event.body) is_begun ∙ append_assoc old (head_of at event.kind len) event.body
+    ∙ ap (λ (n : ℕ). old ++ (head_of at event.kind n ++ event.body)) long
+    ∙ ap (λ (bytes : List ℕ). old ++ bytes) (sym (front_of-header at event))
 
 -- the checksum is computed where the frame stands
-pub checksum_put : (prev at start sum : ℕ) (event : Event) (old header lent : List ℕ) → start ≡ length old → lent ≡ old ++ header ++ event.body
-    → header ≡ header_of event.kind (size_of event) (at + size_of event) → sum ≡ crc_of prev (take (length lent - start) (drop start lent))
-    → sum ≡ checksum_of prev at event
-checksum_put prev at start sum event old header lent at_end is_lent is_header is_sum =
-    is_sum ∙ ap (crc_of prev) (take_rest lent start ∙ front_put at start event old header lent at_end is_lent is_header)
+pub checksum_put : (prev at start : ℕ) (event : Event) (old filled : List ℕ) → start ≡ length old → filled ≡ old ++ front_of at event
+    → crc_of prev (drop start filled) ≡ checksum_of prev at event
+checksum_put prev at start event old filled at_end is_filled =
+    ap (λ (bytes : List ℕ). crc_of prev (drop start bytes)) is_filled ∙ ap (crc_of prev) (drop_at old (front_of at event) start (sym at_end))
 
--- the frame stands behind the old bytes
-pub frame_put : (prev at sum : ℕ) (event : Event) (old header lent : List ℕ) → lent ≡ old ++ header ++ event.body
-    → header ≡ header_of event.kind (size_of event) (at + size_of event) → sum ≡ checksum_of prev at event
-    → lent ++ le32 sum ≡ old ++ frame_of prev at event
+-- behind it the frame ends with its checksum
+pub frame_put : (prev at start : ℕ) (event : Event) (old filled new : List ℕ) → start ≡ length old → filled ≡ old ++ front_of at event
+    → new ≡ filled ++ le32 (crc_of prev (drop start filled)) → new ≡ old ++ frame_of prev at event
 unfolding frame_of
-frame_put prev at sum event old header lent is_lent is_header is_sum =
-    ap (λ bytes. bytes ++ le32 sum) (is_lent ∙ append_assoc old header event.body) ∙ append_assoc old (header ++ event.body) (le32 sum)
-    ∙ ap (λ bytes. old ++ (bytes ++ le32 sum)) (ap (λ bytes. bytes ++ event.body) is_header ∙ sym (front_of-header at event))
-    ∙ ap (λ n. old ++ (front_of at event ++ le32 n)) is_sum
+frame_put prev at start event old filled new at_end is_filled is_new =
+    is_new ∙ ap (λ (n : ℕ). filled ++ le32 n) (checksum_put prev at start event old filled at_end is_filled)
+    ∙ ap (λ (bytes : List ℕ). bytes ++ le32 (checksum_of prev at event)) is_filled
+    ∙ append_assoc old (front_of at event) (le32 (checksum_of prev at event))
 
 -- ---- in an array
 

@@ -15,7 +15,7 @@ mod tests;
 mod write;
 
 pub use checksum::crc;
-pub use laws::{crc_goes_on, one_event_at_a_place};
+pub use laws::{crc_goes_on, frame_in_parts, one_event_at_a_place};
 pub use read::{Frame, frame_at};
 pub use short::ShortFrame;
-pub use write::{put_frame, short_frame};
+pub use write::{close_frame, open_frame, put_frame, short_frame};

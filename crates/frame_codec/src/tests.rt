@@ -1,6 +1,6 @@
 //! Values from outside: checksums that other programs give, the first frames of a log byte by byte, and damage to one.
 
-use crate::{Frame, crc, frame_at, put_frame};
+use crate::{Frame, close_frame, crc, frame_at, open_frame, put_frame};
 use std::test::Fail;
 
 // The checksum of the header of a log's first file, as zlib gives it.
@@ -48,6 +48,21 @@ fn frames_are_written_and_read(rt: HostRuntime) -> Result<(), Fail> {
     );
     assert_eq!(rt; frame_at(&FRAMES, 33, HEADER_SUM), None);
     assert_eq!(rt; frame_at(&FRAMES, 32, first), None);
+    Ok(())
+}
+
+#[test]
+fn bodies_are_written_in_place(rt: HostRuntime) -> Result<(), Fail> {
+    let mut out = Vec::new(rt.alloc());
+    open_frame(32, 2, 1, &mut out)?;
+    assert_eq!(rt; out.as_slice(), &FRAMES[..19]);
+    out.push(1)?;
+    let first = close_frame(HEADER_SUM, 0, &mut out)?;
+    assert_eq!(rt; first, 0x7592_2e8f);
+    open_frame(56, 16, 8, &mut out)?;
+    out.extend_from_slice(&1u64.to_le_bytes())?;
+    assert_eq!(rt; close_frame(first, 24, &mut out)?, 0x1bca_195d);
+    assert_eq!(rt; out.as_slice(), FRAMES.as_slice());
     Ok(())
 }
 
