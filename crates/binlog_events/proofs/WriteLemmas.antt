@@ -3,7 +3,11 @@ use Rattle.std.proofs.Common.{◌≡◌, ℕ, ◌+◌, List, [], ◌∷◌, ◌+
 use Rattle.std.specs.Prelude.{IsErr}
 use Rattle.std.proofs.lemmas.List.{append-nil}
 use Rattle.std.specs.declared.alloc.AllocError.{AllocError}
+use Rattle.frame_codec.specs.Bytes.{le32}
+use Rattle.frame_codec.specs.Crc.{crc_of}
 use Rattle.frame_codec.specs.Frame.{Event, frame_of}
+use Rattle.frame_codec.specs.Header.{head_of}
+use Rattle.frame_codec.proofs.LayoutLemmas.{front_put, checksum_put, frame_put}
 use Rattle.frame_codec.specs.Chain.{chain_of, end_of, last_checksum, EndsWithin}
 use Rattle.frame_codec.proofs.ChainLemmas.{chain_of-nil, chain_of-cons, chain_of-append, end_of-append, last_checksum-append, end_of-le}
 use Rattle.framed_file.specs.Framed.{IsPrefix}
@@ -18,6 +22,18 @@ use Rattle.binlog_events.specs.Frames.{Chains}
 pub chain_of_one : (prev at : ℕ) (event : Event) → chain_of prev at (event ∷ []) ≡ frame_of prev at event
 chain_of_one prev at event =
     chain_of-cons prev at event [] ∙ ap (λ (l : List ℕ). frame_of prev at event ++ l) (chain_of-nil _ _) ∙ append-nil (frame_of prev at event)
+
+-- an event's frame that was begun, given its body and ended is a chain
+pub chains_closed : (start : End) (from len sum : ℕ) (event : Event) (old begun filled new : List ℕ) → from ≡ length old → len ≡ length event.body
+    → begun ≡ old ++ head_of start.at event.kind len → filled ≡ begun ++ event.body
+    → new ≡ filled ++ le32 (crc_of start.crc (drop from filled)) → sum ≡ crc_of start.crc (drop from filled)
+    → Chains (Ok (record { at = start.at + 23 + len; crc = sum })) start old new (event ∷ [])
+chains_closed start from len sum event old begun filled new at_end long is_begun is_filled is_new is_sum =
+    let front = front_put start.at len event old begun filled long is_begun is_filled in (
+      frame_put start.crc start.at from event old filled new at_end front is_new ∙ ap (λ (l : List ℕ). old ++ l) (sym (chain_of_one start.crc start.at event)),
+      omega (arith, long),
+      is_sum ∙ checksum_put start.crc start.at from event old filled at_end front,
+    )
 
 -- the ends of frames, and of more behind them
 pub ends_front : (at : ℕ) (xs ys : List Event) → EndsWithin at (xs ++ ys) → EndsWithin at xs

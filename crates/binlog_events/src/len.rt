@@ -3,6 +3,7 @@ ghost use Rattle.std.specs.Prelude.{◌≡◌, ◌≤◌, ◌<◌, ◌+◌, ◌*
 ghost use Rattle.std.specs.Option.{option_copied};
 ghost use Rattle.frame_codec.specs.Frame.{size_of};
 ghost use Rattle.row_format.specs.Changes.{IsMap, IsFitChange, AreFitChanges};
+ghost use Rattle.row_format.specs.Spelling.{map_spelling};
 ghost use Rattle.binlog_events.specs.Changes.{change_event, map_told, map_events, change_events};
 ghost use Rattle.binlog_events.specs.Transaction.{events_of};
 ghost use Rattle.binlog_events.specs.Items.{AreListed, list_spelling};
@@ -10,6 +11,15 @@ ghost use Rattle.binlog_events.specs.Items.{AreListed, list_spelling};
 use crate::items::count_items;
 use crate::spell::{map_needed, own_map};
 use row_format::{Change, Changes, TableMap, image_len, schema_len};
+
+/// How many bytes the body of a table map's event has.
+pub(crate) fn map_len(map: &TableMap) -> u64
+    requires { IsMap map.now }
+    ensures value { result ≡ length (map_spelling map.now) }
+    ensures small { result ≤ 1177 }
+{
+    1 + map.table.as_bytes().len() as u64 + schema_len(&map.schema)
+}
 
 // How many bytes the event of a table map has, where there is one.
 fn map_size(map: Option<&TableMap>) -> u64
@@ -19,36 +29,36 @@ fn map_size(map: Option<&TableMap>) -> u64
 {
     match map {
         None => 0,
-        Some(map) => 24 + map.table.as_bytes().len() as u64 + schema_len(&map.schema),
+        Some(map) => 23 + map_len(map),
     }
 }
 
-// How many bytes the event of a change itself has.
+/// How many bytes the body of a change's event has.
 #[tactic(auto, using(crate::proofs::LenLemmas::update_len, crate::proofs::LenLemmas::delete_len))]
-fn own_size(change: &Change) -> u64
+pub(crate) fn body_len(change: &Change) -> u64
     requires { IsFitChange change.now }
-    ensures value { result ≡ size_of (change_event change.now) }
-    ensures small { result ≤ 4100 }
+    ensures value { result ≡ length (change_event change.now).body }
+    ensures small { result ≤ 4077 }
 {
     match change {
-        Change::Install { name } => 25 + name.as_bytes().len() as u64,
-        Change::Uninstall { name } => 25 + name.as_bytes().len() as u64,
-        Change::Drop { table } => 25 + table.as_bytes().len() as u64,
+        Change::Install { name } => 2 + name.as_bytes().len() as u64,
+        Change::Uninstall { name } => 2 + name.as_bytes().len() as u64,
+        Change::Drop { table } => 2 + table.as_bytes().len() as u64,
         Change::Create {
             table,
             engine,
             schema,
         } => {
-            26 + table.as_bytes().len() as u64 + engine.as_bytes().len() as u64 + schema_len(schema)
+            3 + table.as_bytes().len() as u64 + engine.as_bytes().len() as u64 + schema_len(schema)
         }
-        Change::Insert { map, row } => 23 + image_len(&map.schema, row) as u64,
+        Change::Insert { map, row } => image_len(&map.schema, row) as u64,
         Change::Update {
             map,
             before,
             after,
             ..
-        } => 27 + image_len(&map.schema, before) as u64 + image_len(&map.schema, after) as u64,
-        Change::Delete { map, before, .. } => 27 + image_len(&map.schema, before) as u64,
+        } => 4 + image_len(&map.schema, before) as u64 + image_len(&map.schema, after) as u64,
+        Change::Delete { map, before, .. } => 4 + image_len(&map.schema, before) as u64,
     }
 }
 
@@ -59,7 +69,7 @@ fn change_size(before: Option<&TableMap>, change: &Change) -> u64
         + size_of (change_event change.now) }
     ensures small { result ≤ 5300 }
 {
-    map_size(map_needed(before, change)) + own_size(change)
+    map_size(map_needed(before, change)) + 23 + body_len(change)
 }
 
 // How many bytes the events of changes have.

@@ -3,17 +3,18 @@ ghost use Rattle.std.specs.Prelude.{◌≡◌, ◌≤◌, ◌<◌, ◌+◌, ◌+
 ghost use Rattle.std.specs.Option.{option_copied};
 ghost use Rattle.frame_codec.specs.Chain.{chain_of, last_checksum, EndsWithin};
 ghost use Rattle.row_format.specs.Changes.{IsMap, IsFitChange, AreFitChanges};
-ghost use Rattle.binlog_events.specs.Changes.{map_told, map_events, change_event, change_events};
+ghost use Rattle.binlog_events.specs.Changes.{map_told, map_event, map_events, change_event, change_events};
 ghost use Rattle.binlog_events.specs.Transaction.{events_of, IsFit};
 ghost use Rattle.binlog_events.specs.Frames.{Chains};
 
 use crate::events::End;
+use crate::len::{body_len, map_len};
 use crate::spell::{MAP_KIND, add_body, kind_of, map_needed, own_map};
-use frame_codec::put_frame;
+use frame_codec::{close_frame, open_frame, put_frame};
 use row_format::{Change, TableMap, Transaction, add_map};
-use std::alloc::{AllocError, Global};
+use std::alloc::AllocError;
 
-// Adds the frame of an event.
+// Adds the frame of an event whose body is at hand.
 fn put_event(kind: u8, body: &[u8], start: End, out: &mut Vec<u8>) -> Result<End, AllocError>
     requires { start.at + 23 + length body.now ≤ 2147483647 }
     ensures { Chains result start out.old.items out.new.items
@@ -26,13 +27,25 @@ fn put_event(kind: u8, body: &[u8], start: End, out: &mut Vec<u8>) -> Result<End
     })
 }
 
+// Adds the event of a table map, its body in place.
+fn put_map(map: &TableMap, start: End, out: &mut Vec<u8>) -> Result<End, AllocError>
+    requires map { IsMap map.now }
+    requires ends { EndsWithin start.at (map_event map.now ∷ []) }
+    ensures chains { Chains result start out.old.items out.new.items (map_event map.now ∷ []) }
+{
+    let from = out.len();
+    let len = map_len(map) as usize;
+    open_frame(start.at, MAP_KIND, len, out)?;
+    add_map(map, out)?;
+    let crc = close_frame(start.crc, from, out)?;
+    Ok(End {
+        at: start.at + 23 + len as u32,
+        crc,
+    })
+}
+
 // Adds the event of a table map, where there is one.
-fn put_map_event(
-    map: Option<&TableMap>,
-    body: &mut Vec<u8>,
-    start: End,
-    out: &mut Vec<u8>,
-) -> Result<End, AllocError>
+fn put_map_event(map: Option<&TableMap>, start: End, out: &mut Vec<u8>) -> Result<End, AllocError>
     requires map { IfSome map (λ m. IsMap m.now) }
     requires ends { EndsWithin start.at (map_told (option_copied map)) }
     ensures chains { Chains result start out.old.items out.new.items
@@ -40,36 +53,32 @@ fn put_map_event(
 {
     match map {
         None => Ok(start),
-        Some(map) => {
-            body.clear();
-            add_map(map, body)?;
-            put_event(MAP_KIND, body, start, out)
-        }
+        Some(map) => put_map(map, start, out),
     }
 }
 
-// Adds the event of a change itself.
-fn put_own_event(
-    change: &Change,
-    body: &mut Vec<u8>,
-    start: End,
-    out: &mut Vec<u8>,
-) -> Result<End, AllocError>
+// Adds the event of a change itself, its body in place.
+fn put_own_event(change: &Change, start: End, out: &mut Vec<u8>) -> Result<End, AllocError>
     requires fit { IsFitChange change.now }
     requires ends { EndsWithin start.at (change_event change.now ∷ []) }
     ensures chains { Chains result start out.old.items out.new.items
         (change_event change.now ∷ []) }
 {
-    body.clear();
-    add_body(change, body)?;
-    put_event(kind_of(change), body, start, out)
+    let from = out.len();
+    let len = body_len(change) as usize;
+    open_frame(start.at, kind_of(change), len, out)?;
+    add_body(change, out)?;
+    let crc = close_frame(start.crc, from, out)?;
+    Ok(End {
+        at: start.at + 23 + len as u32,
+        crc,
+    })
 }
 
 // Adds the events of a change, behind a change with this table map or with none.
 fn put_change(
     before: Option<&TableMap>,
     change: &Change,
-    body: &mut Vec<u8>,
     start: End,
     out: &mut Vec<u8>,
 ) -> Result<End, AllocError>
@@ -79,17 +88,12 @@ fn put_change(
     ensures chains { Chains result start out.old.items out.new.items
         (map_events (option_copied before.entry) change.now ++ change_event change.now ∷ []) }
 {
-    let end = put_map_event(map_needed(before, change), body, start, out)?;
-    put_own_event(change, body, end, out)
+    let end = put_map_event(map_needed(before, change), start, out)?;
+    put_own_event(change, end, out)
 }
 
 // Adds the events of changes, in order.
-fn put_changes(
-    changes: &[Change],
-    body: &mut Vec<u8>,
-    start: End,
-    out: &mut Vec<u8>,
-) -> Result<End, AllocError>
+fn put_changes(changes: &[Change], start: End, out: &mut Vec<u8>) -> Result<End, AllocError>
     requires fit { AreFitChanges changes.now }
     requires ends { EndsWithin start.at (change_events None changes.now) }
     ensures chains { Chains result start out.old.items out.new.items
@@ -100,7 +104,7 @@ fn put_changes(
     let mut i = 0;
     while i < changes.len() {
         let change = &changes[i];
-        end = put_change(before, change, body, end, out)?;
+        end = put_change(before, change, end, out)?;
         before = own_map(change);
         i += 1;
     }
@@ -109,26 +113,19 @@ fn put_changes(
 
 // Adds the events of a transaction.
 #[tactic(auto, unfolding(frame_codec::specs::Bytes::le64))]
-fn put_events(
-    alloc: Global,
-    txn: &Transaction,
-    start: End,
-    out: &mut Vec<u8>,
-) -> Result<End, AllocError>
+fn put_events(txn: &Transaction, start: End, out: &mut Vec<u8>) -> Result<End, AllocError>
     requires fit { IsFit txn.now }
     requires ends { EndsWithin start.at (events_of txn.now) }
     ensures chains { Chains result start out.old.items out.new.items (events_of txn.now) }
 {
-    let mut body = Vec::new(alloc);
     let begun = put_event(2, &[1], start, out)?;
-    let end = put_changes(txn.changes.as_slice(), &mut body, begun, out)?;
+    let end = put_changes(txn.changes.as_slice(), begun, out)?;
     put_event(16, &txn.xid.to_le_bytes(), end, out)
 }
 
 /// Appends the frames of a transaction that begins at the file position `at`, chained to the checksum `prev`, and answers the
 /// checksum of the last one. Where there is no memory, `out` holds what it held.
 pub fn put_transaction(
-    alloc: Global,
     txn: &Transaction,
     at: u32,
     prev: u32,
@@ -142,7 +139,7 @@ pub fn put_transaction(
     ensures err { OnErr result (out.new.items ≡ out.old.items) }
 {
     let len = out.len();
-    match put_events(alloc, txn, End { at, crc: prev }, out) {
+    match put_events(txn, End { at, crc: prev }, out) {
         Ok(end) => Ok(end.crc),
         Err(refused) => {
             out.truncate(len);

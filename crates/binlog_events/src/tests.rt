@@ -93,7 +93,7 @@ fn again(rt: &impl Abort, alloc: Global, log: &[u8]) -> Result<Option<usize>, Al
         return Ok(None);
     };
     let mut out = Vec::new(alloc);
-    let sum = put_transaction(alloc, &found.txn, 32, HEADER_SUM, &mut out)?;
+    let sum = put_transaction(&found.txn, 32, HEADER_SUM, &mut out)?;
     assert_eq!(rt; out.as_slice(), log);
     assert_eq!(rt; sum, found.crc);
     assert_eq!(rt; out.len(), found.len);

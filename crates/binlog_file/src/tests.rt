@@ -121,7 +121,7 @@ fn put(
         return Err(BinlogFault::Memory);
     }
     let mut bytes = Vec::new(alloc);
-    put_transaction(alloc, txn, log.len(), log.last_crc(), &mut bytes)?;
+    put_transaction(txn, log.len(), log.last_crc(), &mut bytes)?;
     log.append(volume, bytes.as_slice(), 1)?;
     Ok(())
 }

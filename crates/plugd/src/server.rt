@@ -84,7 +84,7 @@ impl Server {
         self.spelling.clear();
         let at = self.log.len();
         let prev = self.log.last_crc();
-        put_transaction(self.alloc, &txn, at, prev, &mut self.spelling)?;
+        put_transaction(&txn, at, prev, &mut self.spelling)?;
         self.acks.reserve(1)?;
         Ok(self.write(volume))
     }
