@@ -4,7 +4,7 @@ use Rattle.std.specs.Prelude.{◌==◌, not}
 use Rattle.std.specs.Int.{w32, from_le_bytes}
 use Rattle.frame_codec.specs.Bytes.{le32}
 use Rattle.frame_codec.proofs.FrameLemmas.{length-le32}
-use Rattle.std.proofs.lemmas.Bool.{eqb-true, cases_Bool, cond-true, cond-false, not-false}
+use Rattle.std.proofs.lemmas.Bool.{eqb-true, cases_Bool, not-false}
 use Rattle.frame_codec.specs.Frame.{Event}
 use Rattle.sql_value.specs.declared.value.Value.{Value}
 use Rattle.row_format.specs.declared.schema.Schema.{Schema}
@@ -15,9 +15,8 @@ use Rattle.binlog_events.specs.declared.walk.Before.{Before}
 use Rattle.binlog_events.specs.declared.walk.Before.TheVariants.{Other, RowOf, MapOf}
 use Rattle.sql_value.specs.Names.{IsName}
 use Rattle.row_format.specs.Schemas.{same_map, IsSchema}
-use Rattle.row_format.specs.Rows.{IsRow}
 use Rattle.row_format.specs.Spelling.{counted, schema_spelling, map_spelling, row_image}
-use Rattle.row_format.specs.Changes.{IsMap, IsPlace, IsPlaced, IsFitChange, AreFitChanges}
+use Rattle.row_format.specs.Changes.{IsMap, IsPlace, IsFitChange, AreFitChanges}
 use Rattle.binlog_events.specs.Changes.{map_event, change_event, map_of, map_for, needs_map, change_events}
 use Rattle.row_format.specs.Reading.{◌>>=◌, where_so, byte_at, piece_at, name_at, schema_at, map_at, row_at}
 use Rattle.binlog_events.specs.Walking.{Item, create_at, named_at, query_of, query_at, query_item, may_follow, map_item, is_place, place_at, insert_at, update_at, delete_at, row_change_at, map_before, row_item, item_at, may_end}
