@@ -1,14 +1,14 @@
 -- An engine that is the same, but for how its reading is told, has the same recoverable images.
-use Rattle.std.proofs.Common.{◌≡◌, ◌⊎◌, inl, inr, ℕ, suc, List, [], ◌∷◌, map, subst}
+use Rattle.std.proofs.Common.{◌≡◌, ◌⊎◌, inl, inr, ⊎_elim, ℕ, suc, List, [], ◌∷◌, map, subst}
 use Rattle.disk_model.specs.File.{File}
-use Rattle.disk_model.specs.Disk.{Disk, now, contents}
+use Rattle.disk_model.specs.Disk.{Disk, now}
 use Rattle.row_format.specs.declared.change.Transaction.{Transaction}
 use Rattle.log_tables.specs.declared.gist.Gist.{Gist}
 use Rattle.engine_api.specs.States.{Kind}
-use Rattle.engine_api.specs.Reads.{Reading, SameReading, AreFaithful, bytes_in}
+use Rattle.engine_api.specs.Reads.{Reading, SameReading, AreFaithful, AreAtStart}
 use Rattle.recovery_rules.specs.Recovery.{ShelfEngine, IsRecoverable, IsRecovered}
 use Rattle.volume_rules.specs.Readers.{Reader, with_gists}
-use Rattle.volume_rules.specs.Images.{AreImages, StandFor, IsRecoverableTo, IsRecoveredTo, EachImage, EachRecoverable, EachRecovered, IsRecoverableVolume}
+use Rattle.volume_rules.specs.Images.{AreImages, StandFor, IsRecoverableTo, IsRecoveredTo, EachImage, EachRecoverable, EachRecovered, AreAllAtStart, IsRecoverableVolume}
 
 -- the one engine, as it is read
 abbrev pub read_by : Kind → Reading → List Reader
@@ -68,11 +68,21 @@ recovered_same shelf kind old new log files same each image images within faithf
       recovered = with_same kind old new is.gists (IsRecovered shelf log) is.recovered;
     }
 
+at_start_same : (old new : Reading) (place : ℕ) (files : List File) (images : List (List ℕ)) → SameReading old new → AreAtStart new place files images → AreAtStart old place files images
+at_start_same old new place [] [] same are = tt
+at_start_same old new place [] (image ∷ images) same are = are
+at_start_same old new place (file ∷ files) [] same are = are
+at_start_same old new place (file ∷ files) (image ∷ images) same are =
+    (⊎_elim (λ whole. inl whole) (λ faithful. inr (same.faithful place file image faithful)) are.0, at_start_same old new (suc place) files images same are.1)
+
+all_at_start_same : (kind : Kind) (old new : Reading) (files : ℕ → File) (images : List (List (List ℕ))) → SameReading old new → AreAllAtStart (read_by kind new) files images → AreAllAtStart (read_by kind old) files images
+all_at_start_same kind old new files [] same are = are
+all_at_start_same kind old new files (one ∷ []) same are = (at_start_same old new 0 (map files kind.files) one same are.0, tt)
+all_at_start_same kind old new files (one ∷ two ∷ images) same are = absurd are.1
+
 -- a volume that can be recovered
 pub volume_same : (shelf : List ShelfEngine) (kind : Kind) (old new : Reading) (disk : Disk) → SameReading old new
     → IsRecoverableVolume shelf (read_by kind old) disk → IsRecoverableVolume shelf (read_by kind new) disk
-volume_same shelf kind old new disk same is = record {
-  log = is.log;
-  contents_are = recoverable_to_same shelf kind old new is.log (contents disk 0) (bytes_in kind.files disk ∷ []) same is.contents_are;
-  images_are = recoverable_same shelf kind old new (now disk) same is.images_are;
-}
+volume_same shelf kind old new disk same each image images at_start are =
+    let is = each image images at_start (all_at_start_same kind old new (now disk) images same are) in
+    (is.0, recoverable_to_same shelf kind old new is.0 image images same is.1)

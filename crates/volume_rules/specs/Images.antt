@@ -1,13 +1,13 @@
 -- Which crash images of a volume are recoverable, and which are recovered: those of the log's file and of the files of engines. (This
 -- project.)
-use Rattle.std.specs.Prelude.{◌≡◌, ℕ, List, [], ◌∷◌, map}
+use Rattle.std.specs.Prelude.{◌≡◌, ◌⊎◌, ℕ, List, [], ◌∷◌, map}
 use Rattle.disk_model.specs.File.{File, IsImage}
-use Rattle.disk_model.specs.Disk.{Disk, now, contents}
+use Rattle.disk_model.specs.Disk.{Disk, now}
 use Rattle.framed_file.specs.Framed.{IsFaithful}
 use Rattle.row_format.specs.declared.change.Transaction.{Transaction}
 use Rattle.binlog_file.specs.Logged.{IsLogHeader, IsLogged}
 use Rattle.log_tables.specs.declared.gist.Gist.{Gist}
-use Rattle.engine_api.specs.Reads.{AreFaithful, bytes_in}
+use Rattle.engine_api.specs.Reads.{AreFaithful, AreAtStart}
 use Rattle.recovery_rules.specs.Recovery.{ShelfEngine, IsRecoverable, IsRecovered}
 use Rattle.volume_rules.specs.Readers.{Reader, with_gists}
 
@@ -50,8 +50,18 @@ EachRecoverable shelf readers files = EachImage readers files (λ image images. 
 abbrev pub EachRecovered : List ShelfEngine → List Reader → List Transaction → (ℕ → File) → Type 0
 EachRecovered shelf readers log files = EachImage readers files (IsRecoveredTo shelf readers log)
 
--- a volume that can be recovered: its contents, and each faithful crash image of it now
-pub record IsRecoverableVolume (shelf : List ShelfEngine) (readers : List Reader) (disk : Disk) : Type 0 where
-  pub log : List Transaction
-  pub contents_are : IsRecoverableTo shelf readers log (contents disk 0) (map (λ it. bytes_in it.kind.files disk) readers)
-  pub images_are : EachRecoverable shelf readers (now disk)
+-- of a log file the contents, or a faithful crash image
+abbrev pub IsAtStart : File → List ℕ → Type 0
+IsAtStart file image = (image ≡ file.bytes) ⊎ (IsImage file image × IsFaithful IsLogHeader file image)
+
+-- of each file of the engines the contents, or a faithful crash image
+abbrev pub AreAllAtStart : List Reader → (ℕ → File) → List (List (List ℕ)) → Type 0
+AreAllAtStart [] files [] = Unit {0}
+AreAllAtStart [] files (images ∷ more) = ⊥
+AreAllAtStart (it ∷ rest) files [] = ⊥
+AreAllAtStart (it ∷ rest) files (images ∷ more) = AreAtStart it.reading 0 (map files it.kind.files) images × AreAllAtStart rest files more
+
+-- A volume that can be recovered: whichever files have their contents, and which a faithful crash image, together they are recoverable.
+abbrev pub IsRecoverableVolume : List ShelfEngine → List Reader → Disk → Type 0
+IsRecoverableVolume shelf readers disk = (image : List ℕ) (images : List (List (List ℕ))) → IsAtStart (now disk 0) image → AreAllAtStart readers (now disk) images
+    → (log : List Transaction) × IsRecoverableTo shelf readers log image images
