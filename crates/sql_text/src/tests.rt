@@ -26,8 +26,8 @@ fn check_faults(rt: &impl Abort, alloc: Global, cases: &[(&[u8], Option<i64>)]) 
 }
 
 #[test]
-fn statements_are_read(rt: HostRuntime) {
-    let cases: [(&[u8], Option<i64>); 40] = [
+fn tables_are_created_and_dropped(rt: HostRuntime) {
+    let cases: [(&[u8], Option<i64>); 8] = [
         (
             b"CREATE TABLE t (k BIGINT PRIMARY KEY, v VARCHAR(10)) ENGINE = JOURNAL",
             None,
@@ -48,6 +48,13 @@ fn statements_are_read(rt: HostRuntime) {
         (b"CREATE TABLE t (a VARCHAR(1)) ENGINE\t=\r MEMORY", None),
         (b"DROP TABLE t", None),
         (b"drop\ttable\rT;", None),
+    ];
+    check_faults(&rt, rt.alloc(), &cases);
+}
+
+#[test]
+fn rows_are_inserted(rt: HostRuntime) {
+    let cases: [(&[u8], Option<i64>); 6] = [
         (b"INSERT INTO t VALUES (1, 'x')", None),
         (b"INSERT INTO t VALUES(1),(2),(NULL)", None),
         (
@@ -63,10 +70,16 @@ fn statements_are_read(rt: HostRuntime) {
             None,
         ),
         (b"INSERT INTO _t9 VALUES ('\xc3\xa9')", None),
+    ];
+    check_faults(&rt, rt.alloc(), &cases);
+}
+
+#[test]
+fn rows_are_selected(rt: HostRuntime) {
+    let cases: [(&[u8], Option<i64>); 9] = [
         (b"SELECT * FROM t", None),
         (b"SELECT*FROM t", None),
         (b"SELECT a, b FROM t WHERE a = 1", None),
-        (b"SELECT a FROM t WHERE 1OR a IS NULL", Some(23)),
         (b"SELECT a FROM t WHERE a = 1OR b = 'x'AND c <> 2", None),
         (b"SELECT * FROM t WHERE ((a = 1))", None),
         (
@@ -79,11 +92,25 @@ fn statements_are_read(rt: HostRuntime) {
             None,
         ),
         (b"SELECT * FROM t WHERE NULL = NULL", None),
+    ];
+    check_faults(&rt, rt.alloc(), &cases);
+}
+
+#[test]
+fn rows_are_updated_and_deleted(rt: HostRuntime) {
+    let cases: [(&[u8], Option<i64>); 5] = [
         (b"UPDATE t SET a = 1", None),
         (b"UPDATE t SET a = a + 1, b = 'x' WHERE k = 5;", None),
         (b"update t set a=-1,b=b-1 where(k=1)", None),
         (b"DELETE FROM t", None),
         (b"DELETE FROM t WHERE a IS NULL", None),
+    ];
+    check_faults(&rt, rt.alloc(), &cases);
+}
+
+#[test]
+fn transactions_and_plugins_are_read(rt: HostRuntime) {
+    let cases: [(&[u8], Option<i64>); 11] = [
         (b"BEGIN", None),
         (b" BEGIN WORK ; ", None),
         (b"START TRANSACTION", None),
@@ -99,9 +126,10 @@ fn statements_are_read(rt: HostRuntime) {
     check_faults(&rt, rt.alloc(), &cases);
 }
 
+// The place of a fault is where the first token begins that no statement has there.
 #[test]
-fn faults_are_at_the_first_token_that_no_statement_has(rt: HostRuntime) {
-    let cases: [(&[u8], Option<i64>); 60] = [
+fn faults_at_the_first_words_and_behind_a_statement(rt: HostRuntime) {
+    let cases: [(&[u8], Option<i64>); 14] = [
         (b"", Some(0)),
         (b"   ", Some(3)),
         (b";", Some(0)),
@@ -109,6 +137,20 @@ fn faults_are_at_the_first_token_that_no_statement_has(rt: HostRuntime) {
         (b"TABLE", Some(0)),
         (b"CREATE", Some(6)),
         (b"CREATE  x", Some(8)),
+        (b"DROP TABLE", Some(10)),
+        (b"DROP TABLE t;;", Some(13)),
+        (b"DROP TABLE t t", Some(13)),
+        (b"DROP TABLE 1t", Some(11)),
+        (b"BEGIN TRANSACTION", Some(6)),
+        (b"COMMIT \xff", Some(7)),
+        (b"BEGIN\n", Some(5)),
+    ];
+    check_faults(&rt, rt.alloc(), &cases);
+}
+
+#[test]
+fn faults_in_the_items_of_a_table(rt: HostRuntime) {
+    let cases: [(&[u8], Option<i64>); 15] = [
         (b"CREATE TABLE select (a BIGINT) ENGINE = X", Some(13)),
         (b"CREATE TABLE t ()", Some(16)),
         (b"CREATE TABLE t (a INT) ENGINE = X", Some(18)),
@@ -130,10 +172,13 @@ fn faults_are_at_the_first_token_that_no_statement_has(rt: HostRuntime) {
         (b"CREATE TABLE t (a BIGINT KEY) ENGINE = X", Some(25)),
         (b"CREATE TABLE t (PRIMARY KEY k) ENGINE = X", Some(28)),
         (b"CREATE TABLE t (a BIGINT) ENGINE = = X", Some(35)),
-        (b"DROP TABLE", Some(10)),
-        (b"DROP TABLE t;;", Some(13)),
-        (b"DROP TABLE t t", Some(13)),
-        (b"DROP TABLE 1t", Some(11)),
+    ];
+    check_faults(&rt, rt.alloc(), &cases);
+}
+
+#[test]
+fn faults_in_the_rows_of_an_insert(rt: HostRuntime) {
+    let cases: [(&[u8], Option<i64>); 18] = [
         (b"INSERT INTO t VALUES (1, 'x'", Some(28)),
         (b"INSERT INTO t VALUES (1, 'x", Some(27)),
         (b"INSERT INTO t VALUES ('a\\x')", Some(24)),
@@ -158,9 +203,18 @@ fn faults_are_at_the_first_token_that_no_statement_has(rt: HostRuntime) {
         (b"INSERT INTO t VALUES (1) (2)", Some(25)),
         (b"INSERT INTO t VALUES (1),", Some(25)),
         (b"INSERT INTO t (a) VALUES (1)", Some(14)),
+    ];
+    check_faults(&rt, rt.alloc(), &cases);
+}
+
+#[test]
+fn faults_in_columns_and_conditions(rt: HostRuntime) {
+    let cases: [(&[u8], Option<i64>); 14] = [
         (b"SELECT FROM t", Some(7)),
         (b"SELECT *, a FROM t", Some(8)),
         (b"SELECT a b FROM t", Some(9)),
+        (b"UPDATE t SET a + 1", Some(15)),
+        (b"SELECT a FROM t WHERE 1OR a IS NULL", Some(23)),
         (b"SELECT * FROM t WHERE", Some(21)),
         (b"SELECT * FROM t WHERE a", Some(23)),
         (b"SELECT * FROM t WHERE a = ", Some(26)),
@@ -170,10 +224,6 @@ fn faults_are_at_the_first_token_that_no_statement_has(rt: HostRuntime) {
         (b"SELECT * FROM t WHERE a = 1 = 2", Some(28)),
         (b"SELECT * FROM t WHERE a IS 1", Some(27)),
         (b"SELECT * FROM t WHERE a NOT NULL", Some(24)),
-        (b"UPDATE t SET a + 1", Some(15)),
-        (b"BEGIN TRANSACTION", Some(6)),
-        (b"COMMIT \xff", Some(7)),
-        (b"BEGIN\n", Some(5)),
     ];
     check_faults(&rt, rt.alloc(), &cases);
 }
@@ -205,20 +255,45 @@ fn fault_with(
     Ok(fault_of(rt, alloc, &text))
 }
 
+// No keyword is a name, and a keyword with a letter more is one.
+fn check_words(rt: &impl Abort, alloc: Global, words: &[&[u8]]) -> Result<(), Fail> {
+    for (i, word) in words.iter().enumerate() {
+        let found = fault_with(rt, alloc, b"DROP TABLE ", word, b"")?;
+        assert!(rt; found == Some(11), "word {i}");
+        let longer = fault_with(rt, alloc, b"DROP TABLE ", word, b"_")?;
+        assert!(rt; longer == None, "word {i} and a letter");
+    }
+    Ok(())
+}
+
 #[test]
-fn keywords_are_no_names(rt: HostRuntime) -> Result<(), Fail> {
-    let words: [&[u8]; 35] = [
-        b"aNd",
-        b"BigInt",
+fn keywords_that_begin_statements_are_no_names(rt: HostRuntime) -> Result<(), Fail> {
+    let words: [&[u8]; 14] = [
         b"bEGIN",
         b"CoMmIt",
         b"creatE",
         b"Delete",
         b"dROP",
-        b"eNGINE",
-        b"fRom",
         b"INSERt",
         b"instAll",
+        b"releasE",
+        b"RollBack",
+        b"savePoint",
+        b"seLECt",
+        b"staRT",
+        b"unInstall",
+        b"upDATE",
+    ];
+    check_words(&rt, rt.alloc(), &words)
+}
+
+#[test]
+fn keywords_within_statements_are_no_names(rt: HostRuntime) -> Result<(), Fail> {
+    let words: [&[u8]; 21] = [
+        b"aNd",
+        b"BigInt",
+        b"eNGINE",
+        b"fRom",
         b"Into",
         b"iS",
         b"kEY",
@@ -227,30 +302,17 @@ fn keywords_are_no_names(rt: HostRuntime) -> Result<(), Fail> {
         b"oR",
         b"plUGin",
         b"PRImary",
-        b"releasE",
-        b"RollBack",
-        b"savePoint",
-        b"seLECt",
         b"sET",
         b"SOname",
-        b"staRT",
         b"TaBlE",
         b"tO",
         b"transACTion",
-        b"unInstall",
-        b"upDATE",
         b"vaLUES",
         b"varCHAR",
         b"wHERe",
         b"WORk",
     ];
-    for (i, word) in words.iter().enumerate() {
-        let found = fault_with(&rt, rt.alloc(), b"DROP TABLE ", word, b"")?;
-        assert!(rt; found == Some(11), "word {i}");
-        let longer = fault_with(&rt, rt.alloc(), b"DROP TABLE ", word, b"_")?;
-        assert!(rt; longer == None, "word {i} and a letter");
-    }
-    Ok(())
+    check_words(&rt, rt.alloc(), &words)
 }
 
 #[test]
@@ -299,25 +361,37 @@ fn length_is_bounded(rt: HostRuntime) -> Result<(), Fail> {
     Ok(())
 }
 
+// A front with a word many times behind it.
+fn repeated(alloc: Global, front: &[u8], word: &[u8], count: usize) -> Result<Vec<u8>, AllocError> {
+    let mut text = front.to_vec(alloc)?;
+    for _ in 0..count {
+        text.extend_from_slice(word)?;
+    }
+    Ok(text)
+}
+
 #[test]
-fn deep_conditions_are_answered(rt: HostRuntime) -> Result<(), Fail> {
+fn deep_parentheses_are_answered(rt: HostRuntime) -> Result<(), Fail> {
     let alloc = rt.alloc();
-    let mut text = b"DELETE FROM t WHERE ".to_vec(alloc)?;
-    for _ in 0..32000 {
-        text.push(b'(')?;
-    }
-    assert!(rt; fault_of(&rt, alloc, &text) == Some(32020));
-    text.extend_from_slice(b"a=1")?;
-    for _ in 0..32000 {
-        text.push(b')')?;
-    }
-    assert!(rt; fault_of(&rt, alloc, &text) == None);
-    let mut text = b"DELETE FROM t WHERE ".to_vec(alloc)?;
-    for _ in 0..16000 {
-        text.extend_from_slice(b"NOT ")?;
-    }
-    text.extend_from_slice(b"a=1")?;
-    assert!(rt; fault_of(&rt, alloc, &text) == None);
+    let alone = repeated(alloc, b"", b"(", 65536)?;
+    assert!(rt; fault_of(&rt, alloc, &alone) == Some(0));
+    let open = repeated(alloc, b"DELETE FROM t WHERE ", b"(", 65516)?;
+    assert!(rt; fault_of(&rt, alloc, &open) == Some(65536));
+    let half = repeated(alloc, b"DELETE FROM t WHERE ", b"(", 32756)?;
+    let text = repeated(alloc, &half, b"a=1", 1)?;
+    let closed = repeated(alloc, &text, b")", 32756)?;
+    assert!(rt; fault_of(&rt, alloc, &closed) == None);
+    Ok(())
+}
+
+#[test]
+fn deep_nots_are_answered(rt: HostRuntime) -> Result<(), Fail> {
+    let alloc = rt.alloc();
+    let open = repeated(alloc, b"DELETE FROM t WHERE ", b"NOT ", 16379)?;
+    assert!(rt; fault_of(&rt, alloc, &open) == Some(65536));
+    let mut closed = repeated(alloc, b"DELETE FROM t WHERE ", b"NOT ", 16378)?;
+    closed.extend_from_slice(b"a=1")?;
+    assert!(rt; fault_of(&rt, alloc, &closed) == None);
     Ok(())
 }
 
