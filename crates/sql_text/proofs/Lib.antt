@@ -18,6 +18,7 @@ pub mod LexisLemmas
 pub mod NumberLemmas
 pub mod Options
 pub mod ParseLemmas
+pub mod PlaceLemmas
 pub mod QuotedLemmas
 pub mod ReadAll
 pub mod ReadingLemmas

@@ -50,7 +50,7 @@ text_ends bytes =
 refused : (bytes : List ℕ) (x : Refusal) → length bytes ≤ 65536 → run Start (tokens_of bytes) ≡ Err (fault.Refused x) → Parses bytes (Err (fault.Refused x))
 refused bytes x short ran =
     let p = has_place Start (tokens_of bytes) x ran in
-    inr (p.0, tokens_of bytes, p.1, short, are_tokens bytes, faults Start [] (tokens_of bytes) p.0 refl (ran ∙ ap (λ y. Err (fault.Refused y)) p.1))
+    inr (p.0, p.1, short, (tokens_of bytes, are_tokens bytes, faults Start [] (tokens_of bytes) p.0 refl (ran ∙ ap (λ y. Err (fault.Refused y)) p.1)))
 
 -- what is read is spelt, and what is refused has its fault there
 pub parses : (bytes : List ℕ) (r : Result Statement ParseFault) → length bytes ≤ 65536 → ReadsAs r (run Start (tokens_of bytes)) → Parses bytes r

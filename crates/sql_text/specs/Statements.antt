@@ -39,13 +39,16 @@ pub record FaultsAt (tokens : List Token) (at : ℕ) : Type 0 where
   pub ends_here : ¬ IsFront (lexemes_of front ++ token.lexeme ∷ [])
   pub place : IsPlace (lexemes_of front) token at
 
--- Why no statement is read: the text is too long, or this token is the first that no statement has there. Want of memory
--- may come at any time.
+-- the text has a fault, and it is at this place
+abbrev pub HasFault : List ℕ → ℕ → Type 0
+HasFault bytes at = (tokens : List Token) × AreTokens bytes tokens × FaultsAt tokens at
+
+-- Why no statement is read: the text is too long, or has its fault there. Want of memory may come at any time.
 abbrev pub Refuses : List ℕ → ParseFault → Type 0
 Refuses bytes fault.Memory = Unit {0}
 Refuses bytes (fault.Refused refusal) =
     ((refusal ≡ StatementTooLong) × (65536 < length bytes))
-    ⊎ ((at : ℕ) × (tokens : List Token) × (refusal ≡ Syntax at) × (length bytes ≤ 65536) × AreTokens bytes tokens × FaultsAt tokens at)
+    ⊎ ((at : ℕ) × (refusal ≡ Syntax at) × (length bytes ≤ 65536) × HasFault bytes at)
 
 -- the text spells this statement, or is refused for this
 abbrev pub Parses : List ℕ → Result Statement ParseFault → Type 0

@@ -1,7 +1,7 @@
 //! A statement from its text.
-ghost use Rattle.std.specs.Prelude.{◌≡◌, ◌⊎◌, ◌≤◌, ◌<◌, length, IsTrue};
+ghost use Rattle.std.specs.Prelude.{◌≡◌, ◌⊎◌, ◌≤◌, ◌<◌, ℕ, length, IsTrue};
 ghost use Rattle.sql_text.specs.Run.{run, refusal_of, text_place, ends_last, ReadsAs};
-ghost use Rattle.sql_text.specs.Statements.{Spells, Parses};
+ghost use Rattle.sql_text.specs.Statements.{Spells, HasFault, Parses};
 ghost use Rattle.sql_text.specs.Tokens.{tokens_of};
 ghost use Rattle.sql_text.specs.declared.statement.Statement.{Statement};
 ghost use Rattle.sql_text.specs.declared.reading.Reading.TheVariants.{Start};
@@ -95,6 +95,10 @@ pub fn parse(alloc: Global, bytes: &[u8]) -> Result<Statement, ParseFault>
     ensures only { (statement : Statement) → length bytes.now ≤ 65536 → Spells bytes.now statement
         → (result ≡ Ok statement) ⊎ (result ≡ Err ParseFault.Memory) }
     ensures one { (a b : Statement) → Spells bytes.now a → Spells bytes.now b → a ≡ b }
+    // A text with a fault is refused for it, unless memory runs out.
+    ensures fault { (at : ℕ) → length bytes.now ≤ 65536 → HasFault bytes.now at
+        → (result ≡ Err (ParseFault.Refused (Refusal.Syntax at))) ⊎ (result ≡ Err ParseFault.Memory) }
+    ensures one_place { (a b : ℕ) → HasFault bytes.now a → HasFault bytes.now b → a ≡ b }
 {
     if bytes.len() > 65536 {
         return Err(ParseFault::Refused(Refusal::StatementTooLong));
