@@ -96,7 +96,7 @@ pub fn parse(alloc: Global, bytes: &[u8]) -> Result<Statement, ParseFault>
         → (result ≡ Ok statement) ⊎ (result ≡ Err ParseFault.Memory) }
     ensures one { (a b : Statement) → Spells bytes.now a → Spells bytes.now b → a ≡ b }
     // A text with a fault is refused for it, unless memory runs out.
-    ensures fault { (at : ℕ) → length bytes.now ≤ 65536 → HasFault bytes.now at
+    ensures syntax { (at : ℕ) → length bytes.now ≤ 65536 → HasFault bytes.now at
         → (result ≡ Err (ParseFault.Refused (Refusal.Syntax at))) ⊎ (result ≡ Err ParseFault.Memory) }
     ensures one_place { (a b : ℕ) → HasFault bytes.now a → HasFault bytes.now b → a ≡ b }
 {

@@ -15,11 +15,11 @@ returns-clause-one c = one c.args.bytes.now
 pub returns-then-bytes-gt65536-clause-one : goal.returns-then-bytes-gt65536-clause-one
 returns-then-bytes-gt65536-clause-one c = one c.args.bytes.now
 
-pub returns-clause-fault : goal.returns-clause-fault
-returns-clause-fault c = λ at short has. refused_at c.args.bytes.now c.read_text.result at short (parses c.args.bytes.now c.read_text.result short c.read_text.ensures) has
+pub returns-clause-syntax : goal.returns-clause-syntax
+returns-clause-syntax c = λ at short has. refused_at c.args.bytes.now c.read_text.result at short (parses c.args.bytes.now c.read_text.result short c.read_text.ensures) has
 
-pub returns-then-bytes-gt65536-clause-fault : goal.returns-then-bytes-gt65536-clause-fault
-returns-then-bytes-gt65536-clause-fault c = λ at short has. absurd (omega arith)
+pub returns-then-bytes-gt65536-clause-syntax : goal.returns-then-bytes-gt65536-clause-syntax
+returns-then-bytes-gt65536-clause-syntax c = λ at short has. absurd (omega arith)
 
 pub returns-clause-one_place : goal.returns-clause-one_place
 returns-clause-one_place c = one_place c.args.bytes.now
