@@ -86,19 +86,31 @@ fn freed_len(tables: &[Stored], change: &Change) -> u64
     }
 }
 
+// The change that makes a table.
+fn creation(it: Definition) -> Change
+    ensures { result ≡ Create it.table it.engine it.schema }
+{
+    Change::Create {
+        table: it.table,
+        engine: it.engine,
+        schema: it.schema,
+    }
+}
+
 // Adds a table with no rows, where its name is free.
-fn create(tables: &mut Vec<Stored>, alloc: Global, definition: Definition) -> Result<(), Definition>
+fn create(tables: &mut Vec<Stored>, alloc: Global, definition: Definition) -> Result<(), Change>
     ensures ok { OnOk result (tables.new.items ≡ after_change
         (Create definition.table definition.engine definition.schema) tables.old.items) }
     ensures none { OnErr result (tables.new.items ≡ tables.old.items) }
-    ensures given_back { IfErr result (λ it. it ≡ definition) }
+    ensures given_back { IfErr result
+        (λ it. it ≡ Create definition.table definition.engine definition.schema) }
 {
     if find(tables, &definition.table).is_some() {
         return Ok(());
     }
     match tables.push(Stored::new(alloc, definition)) {
         Ok(()) => Ok(()),
-        Err(e) => Err(e.value.into_definition()),
+        Err(e) => Err(creation(e.value.into_definition())),
     }
 }
 
@@ -159,14 +171,7 @@ fn make(tables: &mut Vec<Stored>, alloc: Global, change: Change) -> Result<(), C
                 engine,
                 schema,
             };
-            match create(tables, alloc, definition) {
-                Ok(()) => Ok(()),
-                Err(it) => Err(Change::Create {
-                    table: it.table,
-                    engine: it.engine,
-                    schema: it.schema,
-                }),
-            }
+            create(tables, alloc, definition)
         }
         Change::Drop { table } => {
             drop_table(tables, &table);
