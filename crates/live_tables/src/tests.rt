@@ -1,12 +1,14 @@
 //! Transactions by hand, one at a time, and what is left in the tables.
 ghost use Rattle.std.specs.Prelude.{◌≡◌, None, OnOk};
 ghost use Rattle.engine_api.specs.Live.{live_schema, IsRowFor};
-ghost use Rattle.live_tables.specs.Alone.{IsAlone};
+ghost use Rattle.live_tables.specs.Alone.{IsAlone, IsIdle};
 
 use crate::LiveTables;
 use engine_api::{Code, EngineFault};
 use log_tables::Prepared;
-use row_format::{Changes, Column, Columns, Kind, Name, Row, Schema, Text, Value, check_row};
+use row_format::{
+    Change, Changes, Column, Columns, Kind, Name, Row, Schema, TableMap, Text, Value, check_row,
+};
 use std::alloc::{AllocError, Global};
 use std::process::Abort;
 use std::test::Fail;
@@ -174,6 +176,116 @@ fn what_was_left_waits_for_a_number_above_the_last(rt: HostRuntime) -> Result<()
     assert!(rt; !tables.can_commit(9, 5));
     assert!(rt; tables.can_commit(9, 6));
     assert!(rt; !tables.can_commit(8, 6));
+    Ok(())
+}
+
+// Reads back what an earlier run left prepared under 9.
+fn leave(tables: &mut LiveTables, changes: Vec<Change>) -> Result<(), AllocError>
+    requires { IsIdle tables.old.state }
+{
+    let changes = Changes::new(changes);
+    tables.load_prepared(Prepared { xid: 9, changes })
+}
+
+// Reads back what an earlier run left prepared under 9, and commits it.
+fn replay(
+    rt: &impl Abort,
+    tables: &mut LiveTables,
+    number: u64,
+    changes: Vec<Change>,
+) -> Result<(), AllocError>
+    requires { IsIdle tables.old.state }
+    ensures { OnOk result (IsIdle tables.new.state) }
+{
+    let changes = Changes::new(changes);
+    tables.load_prepared(Prepared { xid: 9, changes })?;
+    if !tables.can_commit(9, number) {
+        rt.abort()
+    }
+    tables.commit_left(9, number);
+    Ok(())
+}
+
+fn map(rt: &impl Abort, alloc: Global) -> Result<TableMap, AllocError> {
+    Ok(TableMap {
+        table: name(rt, alloc, b"t")?,
+        schema: pairs(rt, alloc)?,
+    })
+}
+
+// Takes a row out of the table t.
+fn delete(rt: &impl Abort, alloc: Global, key: i64, text: &[u8]) -> Result<Change, AllocError> {
+    Ok(Change::Delete {
+        map: map(rt, alloc)?,
+        place: 0,
+        before: pair(alloc, key, text)?,
+    })
+}
+
+// The table t, with the rows 1, 2 and 3.
+fn made(rt: &impl Abort, alloc: Global) -> Result<Vec<Change>, AllocError> {
+    let mut changes = Vec::new(alloc);
+    changes.push(Change::Create {
+        table: name(rt, alloc, b"t")?,
+        engine: name(rt, alloc, b"J")?,
+        schema: pairs(rt, alloc)?,
+    })?;
+    for key in 1..4 {
+        changes.push(Change::Insert {
+            map: map(rt, alloc)?,
+            row: pair(alloc, key, b"a")?,
+        })?;
+    }
+    Ok(changes)
+}
+
+// Row 1 becomes row 5, and row 2 goes.
+fn edited(rt: &impl Abort, alloc: Global) -> Result<Vec<Change>, AllocError> {
+    let mut changes = Vec::new(alloc);
+    changes.push(Change::Update {
+        map: map(rt, alloc)?,
+        place: 0,
+        before: pair(alloc, 1, b"a")?,
+        after: pair(alloc, 5, b"b")?,
+    })?;
+    changes.push(delete(rt, alloc, 2, b"a")?)?;
+    Ok(changes)
+}
+
+fn dropped(rt: &impl Abort, alloc: Global) -> Result<Vec<Change>, AllocError> {
+    let mut changes = Vec::new(alloc);
+    changes.push(Change::Drop {
+        table: name(rt, alloc, b"t")?,
+    })?;
+    Ok(changes)
+}
+
+#[test]
+fn changes_of_an_earlier_run_are_made(rt: HostRuntime) -> Result<(), Fail> {
+    let alloc = rt.alloc();
+    let t = name(&rt, alloc, b"t")?;
+    let mut tables = LiveTables::new(alloc);
+    replay(&rt, &mut tables, 1, made(&rt, alloc)?)?;
+    replay(&rt, &mut tables, 2, edited(&rt, alloc)?)?;
+    assert_eq!(rt; tables.records(&t), 2);
+    assert!(rt; text_at(&rt, &tables, &t, 5) == Some(b"b".as_slice()));
+    assert!(rt; text_at(&rt, &tables, &t, 1).is_none());
+    assert!(rt; text_at(&rt, &tables, &t, 2).is_none());
+    replay(&rt, &mut tables, 3, dropped(&rt, alloc)?)?;
+    assert_eq!(rt; tables.records(&t), 0);
+    assert!(rt; tables.schema(&t).is_none());
+    Ok(())
+}
+
+#[test]
+fn a_row_that_differs_is_not_deleted(rt: HostRuntime) -> Result<(), Fail> {
+    let alloc = rt.alloc();
+    let mut tables = LiveTables::new(alloc);
+    replay(&rt, &mut tables, 1, made(&rt, alloc)?)?;
+    let mut changes = Vec::new(alloc);
+    changes.push(delete(&rt, alloc, 1, b"b")?)?;
+    leave(&mut tables, changes)?;
+    assert!(rt; !tables.can_commit(9, 2));
     Ok(())
 }
 
