@@ -1,8 +1,8 @@
 -- How the engines of a list sync, one after the other.
-use Rattle.std.proofs.Common.{◌≡◌, ℕ, zero, suc, ◌+◌, ◌<◌, ◌≤◌, List, [], ◌∷◌, map, set, get_or, length, refl, sym, ap, subst, ◌∙◌, arith, IsTrue, Bool, Result, Ok}
-use Rattle.std.specs.Prelude.{Contains, Err, IsErrAnd}
+use Rattle.std.proofs.Common.{◌≡◌, ℕ, zero, suc, ◌+◌, ◌<◌, ◌≤◌, List, [], ◌∷◌, map, set, get_or, length, take, refl, sym, ap, subst, ◌∙◌, arith, IsTrue, Bool, Result, Ok}
+use Rattle.std.specs.Prelude.{Contains, All, Err, IsErrAnd}
 use Rattle.std.proofs.lemmas.List.Elements.{Contains-append_left}
-use Rattle.disk_model.specs.File.{File}
+use Rattle.disk_model.specs.File.{File, IsSettled}
 use Rattle.disk_model.specs.Disk.{Disk, now, Keeps, HasCause}
 use Rattle.disk_model.proofs.Moments.{both, weaker, started}
 use Rattle.fault_counts.specs.Rose.{Rose}
@@ -11,8 +11,8 @@ use Rattle.engine_api.specs.declared.fault.EngineFault.TheVariants.{Code as code
 use Rattle.engine_api.specs.States.{Kind, EngineState, synced_state}
 use Rattle.engine_api.specs.Reads.{EachReads, OnlyIn}
 use Rattle.engine_api.specs.Calls.{IsDevice, IsSame, Turns, MayCome, AnswersOnly}
-use Rattle.engine_api.specs.Many.{Working, AllApart, IsAtWork, AllAtWork, IsFileOf, MayComeOf, AnswersOf, while_syncing, AllRead, AllMoments, SyncedUpTo, SoFar}
-use Rattle.engine_api.proofs.ManyLemmas.{first_of, kinds_of, reads_as, same_itself, work_after, read_while, one_more, none_yet, same_kinds, told_kinds, file_at}
+use Rattle.engine_api.specs.Many.{Working, AllApart, IsAtWork, AllAtWork, IsFileOf, MayComeOf, AnswersOf, while_syncing, AllRead, AllMoments, SyncedUpTo, AllSettled, SoFar}
+use Rattle.engine_api.proofs.ManyLemmas.{first_of, kinds_of, reads_as, same_itself, work_after, settled_after, read_while, one_more, none_yet, same_kinds, told_kinds, file_at}
 
 read_now : {X : Type 0} (tells : X → Working) (xs : List X) (files : ℕ → File) → AllAtWork (map tells xs) files → AllRead (map tells xs) files
 read_now tells [] files h = tt
@@ -29,6 +29,7 @@ begins tells xs d work = record {
   told = refl;
   later = omega arith;
   no_fewer = omega arith;
+  settled = λ told. tt;
   at_work = work;
   moments = λ told. started d (AllMoments (map tells xs) (now d)) (record { others = λ f not. refl; read = read_now tells xs (now d) (work told) });
 }
@@ -67,14 +68,15 @@ pub goes_on : {X : Type 0} (tells : X → Working) (os xs : List X) (n : ℕ) (y
     → AllApart (kinds_of tells os) → SoFar (map tells os) start n (map tells xs) a → n < length xs
     → IsSame (tells (get_or xs n d)).kind (tells y).kind (tells (get_or xs n d)).reading (tells y).reading
     → Turns (tells (get_or xs n d)).kind (tells (get_or xs n d)).reading (Ok value) (synced_state (tells (get_or xs n d)).state) (tells (get_or xs n d)).state (tells y).state (tells y).holds a b
-    → SoFar (map tells os) start (n + 1) (map tells (set xs n y)) b
-goes_on tells os xs n y d value start a b apart far lt same turns =
+    → (IsTrue a.told → All IsSettled (map (now b) (tells (get_or xs n d)).kind.files)) → SoFar (map tells os) start (n + 1) (map tells (set xs n y)) b
+goes_on tells os xs n y d value start a b apart far lt same turns here_settled =
     let one : suc n ≡ n + 1 = omega arith in
     record {
       synced = subst (λ k. SyncedUpTo k (map tells os) (map tells (set xs n y))) one (one_more tells os xs n y d lt far.synced same turns.ok);
       told = turns.cause.told ∙ far.told;
       later = omega (arith, far.later, turns.cause.later);
       no_fewer = omega (arith, far.no_fewer, turns.cause.no_fewer);
+      settled = settled;
       at_work = work;
       moments = moments_on tells os xs n d (Ok value) (tells y).state (tells y).holds start a b apart far lt turns;
     }
@@ -90,11 +92,25 @@ goes_on tells os xs n y d value start a b apart far lt same turns =
         (record { faithful = same.reading.faithful_back; faithful_back = same.reading.faithful; stands = same.reading.stands_back; stands_back = same.reading.stands }) (λ g h. h) now_is.1 in
         record { holds = subst (tells y).holds (sym at) now_is.0; reads = subst (EachReads (tells y).reading (tells y).state.kept) (sym at) reads }
 
+    told_a : IsTrue start.told → IsTrue a.told
+    told_a told = subst IsTrue (sym far.told) told
+
+    apart_now : AllApart (kinds_of tells xs)
+    apart_now = subst AllApart (sym (same_kinds tells os xs n far.synced)) apart
+
+    others : IsTrue start.told → (f : ℕ) → (Contains it.kind.files f → ⊥) → now b f ≡ now a f
+    others told = ((turns.moments (told_a told)).each b.calls turns.cause.later (omega arith)).0
+
     work : IsTrue start.told → AllAtWork (map tells (set xs n y)) (now b)
-    work told =
-        let told_a : IsTrue a.told = subst IsTrue (sym far.told) told in
-        let others = ((turns.moments told_a).each b.calls turns.cause.later (omega arith)).0 in
-        work_after tells xs n y d (now b) (now a) lt (subst AllApart (sym (same_kinds tells os xs n far.synced)) apart) others (far.at_work told) (here told_a)
+    work told = work_after tells xs n y d (now b) (now a) lt apart_now (others told) (far.at_work told) (here (told_a told))
+
+    settled : IsTrue start.told → AllSettled (take (n + 1) (map (λ w. w.kind) (map tells os))) (now b)
+    settled told =
+        let one : suc n ≡ n + 1 = omega arith in
+        let kinds : map (λ w. w.kind) (map tells os) ≡ kinds_of tells xs = told_kinds tells os ∙ sym (same_kinds tells os xs n far.synced) in
+        let was = subst (λ ks. AllSettled (take n ks) (now a)) kinds (far.settled told) in
+        let is = settled_after tells xs n d (now b) (now a) lt apart_now (others told) was (here_settled (told_a told)) in
+        subst (λ ks. AllSettled (take (n + 1) ks) (now b)) (sym kinds) (subst (λ k. AllSettled (take k (kinds_of tells xs)) (now b)) one is)
 
 -- A call failed: the counts go on, and the device is blamed only where its count rose.
 pub fails : {T U : Type 0} (result : Result T EngineFault) (whole : Result U EngineFault) (olds news : List Working) (n : ℕ) (start a b : Disk)

@@ -1,13 +1,13 @@
 -- One engine of a list syncs, and the others stay.
-use Rattle.std.proofs.Common.{◌≡◌, ◌⊎◌, inl, inr, ⊎_elim, ℕ, zero, suc, ◌<◌, ◌≤◌, List, [], ◌∷◌, map, set, get_or, length, refl, sym, ap, subst, ◌∙◌, arith}
-use Rattle.std.specs.Prelude.{Contains}
+use Rattle.std.proofs.Common.{◌≡◌, ◌⊎◌, inl, inr, ⊎_elim, ℕ, zero, suc, ◌<◌, ◌≤◌, List, [], ◌∷◌, map, set, get_or, length, take, refl, sym, ap, subst, ◌∙◌, arith}
+use Rattle.std.specs.Prelude.{Contains, All}
 use Rattle.std.proofs.lemmas.List.Elements.{Contains-append_left, Contains-append_right}
-use Rattle.disk_model.specs.File.{File}
+use Rattle.disk_model.specs.File.{File, IsSettled}
 use Rattle.log_tables.specs.declared.gist.Gist.{Gist}
 use Rattle.engine_api.specs.States.{Kind, EngineState, synced_state}
 use Rattle.engine_api.specs.Reads.{Reading, SameReading, AreFaithful, EachReads}
 use Rattle.engine_api.specs.Calls.{IsSame}
-use Rattle.engine_api.specs.Many.{Working, AreApart, IsApartFrom, AllApart, IsAtWork, AllAtWork, IsFileOf, while_syncing, AllRead, SyncedUpTo, AllSynced}
+use Rattle.engine_api.specs.Many.{Working, AreApart, IsApartFrom, AllApart, IsAtWork, AllAtWork, IsFileOf, while_syncing, AllRead, SyncedUpTo, AllSynced, AllSettled}
 
 pub first_of : (x : ℕ) (xs : List ℕ) → Contains (x ∷ xs) x
 first_of x xs = (0, omega arith, refl)
@@ -85,6 +85,18 @@ work_after tells (x ∷ xs) (suc n) y d files was lt apart others h here =
     let away = turned (tells x).kind.files (tells (get_or xs n d)).kind.files (apart_at tells (tells x).kind xs n d within apart.0) in
     (stays_at_work (tells x) (tells (get_or xs n d)).kind.files files was away others h.0, work_after tells xs n y d files was within apart.1 others h.1 here)
 
+-- One engine synced: its files are settled, and those of the ones before it stay so.
+pub settled_after : {X : Type 0} (tells : X → Working) (xs : List X) (n : ℕ) (d : X) (files was : ℕ → File) → n < length xs → AllApart (kinds_of tells xs)
+    → ((f : ℕ) → (Contains (tells (get_or xs n d)).kind.files f → ⊥) → files f ≡ was f) → AllSettled (take n (kinds_of tells xs)) was
+    → All IsSettled (map files (tells (get_or xs n d)).kind.files) → AllSettled (take (suc n) (kinds_of tells xs)) files
+settled_after tells [] n d files was lt apart others h here = absurd (omega (arith, lt))
+settled_after tells (x ∷ xs) zero d files was lt apart others h here = (here, tt)
+settled_after tells (x ∷ xs) (suc n) d files was lt apart others h here =
+    let within : n < length xs = omega (arith, lt) in
+    let away = turned (tells x).kind.files (tells (get_or xs n d)).kind.files (apart_at tells (tells x).kind xs n d within apart.0) in
+    let same = sym (others_same (tells (get_or xs n d)).kind.files (tells x).kind.files files was away others) in
+    (subst (All IsSettled) same h.0, settled_after tells xs n d files was within apart.1 others h.1 here)
+
 -- an engine that came from one and whose files are the same reads as that one may
 one_reads : (old new : Working) (files was : ℕ → File) → IsSame old.kind new.kind old.reading new.reading → (new.state ≡ old.state) ⊎ (new.state ≡ synced_state old.state)
     → map files new.kind.files ≡ map was new.kind.files → IsAtWork new was → EachReads old.reading (while_syncing old.state) (map files old.kind.files)
@@ -157,6 +169,14 @@ all_have tells [] (x ∷ xs) n le far = absurd far
 all_have tells (o ∷ os) [] n le far = absurd far
 all_have tells (o ∷ os) (x ∷ xs) zero le far = absurd (omega (arith, le))
 all_have tells (o ∷ os) (x ∷ xs) (suc n) le far = (far.0, far.1, all_have tells os xs n (omega (arith, le)) far.2)
+
+-- The files of all are settled.
+pub all_settled : {X : Type 0} (tells : X → Working) (os xs : List X) (n : ℕ) (files : ℕ → File) → length xs ≤ n → SyncedUpTo n (map tells os) (map tells xs)
+    → AllSettled (take n (map (λ it. it.kind) (map tells os))) files → AllSettled (kinds_of tells os) files
+all_settled tells [] xs n files le far h = tt
+all_settled tells (o ∷ os) [] n files le far h = absurd far
+all_settled tells (o ∷ os) (x ∷ xs) zero files le far h = absurd (omega (arith, le))
+all_settled tells (o ∷ os) (x ∷ xs) (suc n) files le far h = (h.0, all_settled tells os xs n files (omega (arith, le)) far.2 h.1)
 
 -- the kinds are what they were
 pub same_kinds : {X : Type 0} (tells : X → Working) (os xs : List X) (n : ℕ) → SyncedUpTo n (map tells os) (map tells xs) → kinds_of tells xs ≡ kinds_of tells os

@@ -1,6 +1,6 @@
 -- Engines that work on one volume, each on files of its own. (This project.)
-use Rattle.std.specs.Prelude.{◌≡◌, ◌⊎◌, ◌≤◌, ℕ, zero, suc, List, [], ◌∷◌, ◌++◌, map, Contains, IsTrue, Bool, false, Result, Err}
-use Rattle.disk_model.specs.File.{File}
+use Rattle.std.specs.Prelude.{◌≡◌, ◌⊎◌, ◌≤◌, ℕ, zero, suc, List, [], ◌∷◌, ◌++◌, map, take, All, Contains, IsTrue, Bool, false, Result, Err}
+use Rattle.disk_model.specs.File.{File, IsSettled}
 use Rattle.disk_model.specs.Disk.{Disk, now, Keeps}
 use Rattle.log_tables.specs.declared.gist.Gist.{Gist}
 use Rattle.engine_api.specs.declared.fault.EngineFault.{EngineFault}
@@ -15,6 +15,10 @@ pub record Working : Type 1 where
   pub reading : Reading
   pub state : EngineState
   pub holds : List File → Type 0
+
+-- an engine at work that tells these four
+abbrev pub working : Kind → Reading → EngineState → (List File → Type 0) → Working
+working kind reading state holds = record { kind = kind; reading = reading; state = state; holds = holds }
 
 -- no file is one of both
 abbrev pub AreApart : List ℕ → List ℕ → Type 0
@@ -86,11 +90,17 @@ AllSynced [] (new ∷ news) = ⊥
 AllSynced (old ∷ olds) [] = ⊥
 AllSynced (old ∷ olds) (new ∷ news) = IsSame old.kind new.kind old.reading new.reading × (new.state ≡ synced_state old.state) × AllSynced olds news
 
--- so far: so many of the engines are synced, the files are what each takes them for, and what a crash leaves
+-- the files of each of the engines are settled
+abbrev pub AllSettled : List Kind → (ℕ → File) → Type 0
+AllSettled [] files = Unit {0}
+AllSettled (it ∷ rest) files = All IsSettled (map files it.files) × AllSettled rest files
+
+-- so far: so many of the engines are synced and their files settled, the files are what each takes them for, and what a crash leaves
 pub record SoFar (olds : List Working) (start : Disk) (count : ℕ) (news : List Working) (end : Disk) : Type 0 where
   pub synced : SyncedUpTo count olds news
   pub told : end.told ≡ start.told
   pub later : start.calls ≤ end.calls
   pub no_fewer : start.faults ≤ end.faults
+  pub settled : IsTrue start.told → AllSettled (take count (map (λ it. it.kind) olds)) (now end)
   pub at_work : IsTrue start.told → AllAtWork news (now end)
   pub moments : IsTrue start.told → Keeps start end (AllMoments olds (now start))

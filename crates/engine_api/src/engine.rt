@@ -315,6 +315,8 @@ pub trait Engine: Drop {
         ensures turns { Turns (kind self.old) (reading self.old) result
             (synced_state (state self.old))
             (state self.old) (state self.new) (holds self.new) (disk volume.old) (disk volume.new) }
+        ensures settled { IsTrue (disk volume.old).told
+            → OnOk result (All IsSettled (files_in (kind self.old).files (disk volume.new))) }
         ensures answers { AnswersOnly ([]) (kind self.old).files (disk volume.old).told result };
 
     /// The number of its last commit.

@@ -5,7 +5,7 @@ ghost use Rattle.row_format.specs.declared.change.Transaction.{Transaction};
 ghost use Rattle.recovery_rules.specs.Places.{IsDistinct};
 ghost use Rattle.engine_api.specs.Calls.{IsDevice, IsSame, AnswersOnly};
 ghost use Rattle.engine_api.specs.Reads.{OnlyIn};
-ghost use Rattle.engine_api.specs.Many.{Working};
+ghost use Rattle.engine_api.specs.Many.{working};
 ghost use Rattle.xid_recovery.specs.Pairs.{ArePairsOf};
 ghost use Rattle.xid_recovery.specs.Recovers.{IsDeviceFault, IsRecoverableIn, IsIdle, IsBrought, Recovers, Reports, IsReport, TellsOnly};
 ghost use Rattle.xid_recovery.specs.Running.{Fits, Aims, Ran, Tells};
@@ -47,34 +47,21 @@ fn bring(
     engine: &mut Box<dyn Engine + Send>,
     xids: &[(u64, u64)],
 ) -> Result<EngineReport, EngineFault>
-    requires idle { IsIdle (record {
-      kind = kind engine.old;
-      reading = reading engine.old;
-      state = state engine.old;
-      holds = holds engine.old;
-    }) (disk volume.old) }
+    requires idle { IsIdle
+        (working (kind engine.old) (reading engine.old) (state engine.old) (holds engine.old))
+        (disk volume.old) }
     ensures ran { (aim : Option (List Transaction)) → Fits aim xids.now
         → Aims (kind engine.old).name aim (state engine.old).gist
-        → Ran (record {
-          kind = kind engine.old;
-          reading = reading engine.old;
-          state = state engine.old;
-          holds = holds engine.old;
-        }) (record {
-          kind = kind engine.new;
-          reading = reading engine.new;
-          state = state engine.new;
-          holds = holds engine.new;
-        }) aim (disk volume.old) (disk volume.new) }
+        → Ran
+        (working (kind engine.old) (reading engine.old) (state engine.old) (holds engine.old))
+        (working (kind engine.new) (reading engine.new) (state engine.new) (holds engine.new))
+        aim (disk volume.old) (disk volume.new) }
     ensures aims { (aim : Option (List Transaction)) → Fits aim xids.now
         → Aims (kind engine.old).name aim (state engine.old).gist
         → OnOk result (Aims (kind engine.old).name aim (state engine.new).gist) }
-    ensures brought { OnOk result (IsBrought (record {
-      kind = kind engine.new;
-      reading = reading engine.new;
-      state = state engine.new;
-      holds = holds engine.new;
-    }) (disk volume.new)) }
+    ensures brought { OnOk result (IsBrought
+        (working (kind engine.new) (reading engine.new) (state engine.new) (holds engine.new))
+        (disk volume.new)) }
     ensures report { IfOk result (Reports (kind engine.old).name (state engine.old).gist
         (state engine.new).gist.last xids.now) }
     ensures device { HasCause IsDevice result (disk volume.old) (disk volume.new) }
@@ -121,12 +108,9 @@ pub fn recover_one(
     requires crash_safe { IsTrue (kind engine.old).flags.crash_safe }
     ensures same { IsSame (kind engine.old) (kind engine.new)
         (reading engine.old) (reading engine.new) }
-    ensures brought { OnOk result (IsBrought (record {
-      kind = kind engine.new;
-      reading = reading engine.new;
-      state = state engine.new;
-      holds = holds engine.new;
-    }) (disk volume.new)) }
+    ensures brought { OnOk result (IsBrought
+        (working (kind engine.new) (reading engine.new) (state engine.new) (holds engine.new))
+        (disk volume.new)) }
     ensures report { IfOk result (IsReport (kind engine.old) (reading engine.old)
         (disk volume.old) logged xids.now (state engine.new).gist.last) }
 

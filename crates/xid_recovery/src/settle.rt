@@ -6,7 +6,7 @@ ghost use Rattle.disk_model.specs.Disk.{Disk, now, HasCause};
 ghost use Rattle.row_format.specs.declared.change.Transaction.{Transaction};
 ghost use Rattle.engine_api.specs.States.{resolved_state};
 ghost use Rattle.engine_api.specs.Calls.{IsDevice, IsSame, Turns, AnswersOnly};
-ghost use Rattle.engine_api.specs.Many.{Working};
+ghost use Rattle.engine_api.specs.Many.{working};
 ghost use Rattle.xid_recovery.specs.Pairs.{has};
 ghost use Rattle.xid_recovery.specs.Recovers.{IsIdle};
 ghost use Rattle.xid_recovery.specs.Running.{Fits, Aims, IsEnd, IsOnWay, Ran, HasPrepared, IsWithout, SoFar, RollingBack};
@@ -36,12 +36,9 @@ fn settle(
     xid: u64,
     number: u64,
 ) -> Result<(), EngineFault>
-    requires idle { IsIdle (record {
-      kind = kind engine.old;
-      reading = reading engine.old;
-      state = state engine.old;
-      holds = holds engine.old;
-    }) (disk volume.old) }
+    requires idle { IsIdle
+        (working (kind engine.old) (reading engine.old) (state engine.old) (holds engine.old))
+        (disk volume.old) }
     requires prepared { HasPrepared left.old (state engine.old).gist }
     ensures same { IsSame (kind engine.old) (kind engine.new)
         (reading engine.old) (reading engine.new) }
@@ -67,37 +64,20 @@ pub(crate) fn commit_logged(
     left: &mut BTreeSet<u64>,
     xids: &[(u64, u64)],
 ) -> Result<(), EngineFault>
-    requires idle { IsIdle (record {
-      kind = kind engine.old;
-      reading = reading engine.old;
-      state = state engine.old;
-      holds = holds engine.old;
-    }) (disk volume.old) }
+    requires idle { IsIdle
+        (working (kind engine.old) (reading engine.old) (state engine.old) (holds engine.old))
+        (disk volume.old) }
     requires prepared { HasPrepared left.old (state engine.old).gist }
     ensures ran { (aim : Option (List Transaction)) → Fits aim xids.now
         → Aims (kind engine.old).name aim (state engine.old).gist
-        → Ran (record {
-          kind = kind engine.old;
-          reading = reading engine.old;
-          state = state engine.old;
-          holds = holds engine.old;
-        }) (record {
-          kind = kind engine.new;
-          reading = reading engine.new;
-          state = state engine.new;
-          holds = holds engine.new;
-        }) aim (disk volume.old) (disk volume.new) }
-    ensures done { OnOk result (SoFar (record {
-      kind = kind engine.old;
-      reading = reading engine.old;
-      state = state engine.old;
-      holds = holds engine.old;
-    }) (record {
-      kind = kind engine.new;
-      reading = reading engine.new;
-      state = state engine.new;
-      holds = holds engine.new;
-    }) xids.now (length xids.now) left.old left.new (disk volume.old) (disk volume.new)) }
+        → Ran
+        (working (kind engine.old) (reading engine.old) (state engine.old) (holds engine.old))
+        (working (kind engine.new) (reading engine.new) (state engine.new) (holds engine.new))
+        aim (disk volume.old) (disk volume.new) }
+    ensures done { OnOk result (SoFar
+        (working (kind engine.old) (reading engine.old) (state engine.old) (holds engine.old))
+        (working (kind engine.new) (reading engine.new) (state engine.new) (holds engine.new))
+        xids.now (length xids.now) left.old left.new (disk volume.old) (disk volume.new)) }
     ensures device { HasCause IsDevice result (disk volume.old) (disk volume.new) }
     ensures answers { AnswersOnly ([]) (kind engine.old).files (disk volume.old).told result }
 {
@@ -113,37 +93,20 @@ pub(crate) fn roll_back_rest(
     volume: &mut dyn Storage,
     left: &mut BTreeSet<u64>,
 ) -> Result<(), EngineFault>
-    requires idle { IsIdle (record {
-      kind = kind engine.old;
-      reading = reading engine.old;
-      state = state engine.old;
-      holds = holds engine.old;
-    }) (disk volume.old) }
+    requires idle { IsIdle
+        (working (kind engine.old) (reading engine.old) (state engine.old) (holds engine.old))
+        (disk volume.old) }
     requires prepared { HasPrepared left.old (state engine.old).gist }
     ensures ran { (aim : Option (List Transaction)) (place : ℕ) → IsEnd aim place
         → IsOnWay (kind engine.old).name aim place (state engine.old).gist
-        → Ran (record {
-          kind = kind engine.old;
-          reading = reading engine.old;
-          state = state engine.old;
-          holds = holds engine.old;
-        }) (record {
-          kind = kind engine.new;
-          reading = reading engine.new;
-          state = state engine.new;
-          holds = holds engine.new;
-        }) aim (disk volume.old) (disk volume.new) }
-    ensures done { OnOk result (RollingBack (record {
-      kind = kind engine.old;
-      reading = reading engine.old;
-      state = state engine.old;
-      holds = holds engine.old;
-    }) (record {
-      kind = kind engine.new;
-      reading = reading engine.new;
-      state = state engine.new;
-      holds = holds engine.new;
-    }) left.new (disk volume.old) (disk volume.new)) }
+        → Ran
+        (working (kind engine.old) (reading engine.old) (state engine.old) (holds engine.old))
+        (working (kind engine.new) (reading engine.new) (state engine.new) (holds engine.new))
+        aim (disk volume.old) (disk volume.new) }
+    ensures done { OnOk result (RollingBack
+        (working (kind engine.old) (reading engine.old) (state engine.old) (holds engine.old))
+        (working (kind engine.new) (reading engine.new) (state engine.new) (holds engine.new))
+        left.new (disk volume.old) (disk volume.new)) }
     ensures none_left { OnOk result (left.new.keys ≡ []) }
     ensures device { HasCause IsDevice result (disk volume.old) (disk volume.new) }
     ensures answers { AnswersOnly ([]) (kind engine.old).files (disk volume.old).told result }
