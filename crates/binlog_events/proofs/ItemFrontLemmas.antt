@@ -1,11 +1,11 @@
 -- Reading items one after the other, as a loop does.
-use Rattle.std.proofs.Common.{◌≡◌, ℕ, zero, suc, ◌-◌, ◌≤◌, ◌<◌, List, [], ◌++◌, Option, Some, None, Bool, true, false, refl, sym, ap, ◌∙◌, append_assoc, arith}
-use Rattle.std.proofs.lemmas.List.{append-nil}
+use Rattle.std.proofs.Common.{◌≡◌, ℕ, zero, suc, ◌-◌, ◌≤◌, ◌<◌, List, [], ◌∷◌, ◌++◌, length, slice_get, Option, Some, None, Bool, true, false, refl, sym, ap, ◌∙◌, append_assoc, arith}
+use Rattle.std.proofs.lemmas.List.{append-nil, length-append}
 use Rattle.row_format.specs.declared.fault.Unread.{Unread}
 use Rattle.row_format.specs.declared.change.Change.{Change}
-use Rattle.binlog_events.specs.declared.walk.Before.{Before}
 use Rattle.row_format.specs.Reading.{◌>>=◌, where_so, Fails, byte_at}
-use Rattle.binlog_events.specs.Walking.{Item, item_at, may_end, items_at}
+use Rattle.binlog_events.specs.Changes.{map_of}
+use Rattle.binlog_events.specs.Walking.{last_map, Before, Item, item_at, may_end, items_at}
 use Rattle.row_format.proofs.FrontLemmas.{with_front, with_front-fails}
 
 -- some more were read
@@ -57,3 +57,13 @@ pub items_left_over : (front : List Change) (left : ℕ) (before : Before) (rest
 unfolding items_at
 items_left_over front zero before rest whole none may is = sym is ∙ ap (λ (b : Bool). with_front front (where_so b ([], rest))) may
 items_left_over front (suc n) before rest whole none may is = absurd (omega (arith, none))
+
+last_item : {A : Type 0} (xs : List A) (x : A) → slice_get (xs ++ x ∷ []) (length xs) ≡ Some x
+last_item [] x = refl
+last_item (y ∷ ys) x = last_item ys x
+
+-- behind one change more stands its map, or none
+pub last_map-push : (changes : List Change) (change : Change) → last_map (changes ++ change ∷ []) ≡ map_of change
+last_map-push changes change =
+    let last : length (changes ++ change ∷ []) - 1 ≡ length changes = omega (arith, length-append changes (change ∷ [])) in
+    ap (λ (n : ℕ). slice_get (changes ++ change ∷ []) n >>= map_of) last ∙ ap (λ (o : Option Change). o >>= map_of) (last_item changes change)

@@ -6,13 +6,11 @@ use Rattle.frame_codec.specs.Bytes.{le32}
 use Rattle.frame_codec.specs.Frame.{Event}
 use Rattle.frame_codec.proofs.FrameLemmas.{length-le32}
 use Rattle.row_format.specs.declared.change.Change.{Change}
-use Rattle.binlog_events.specs.declared.walk.Before.{Before}
-use Rattle.binlog_events.specs.declared.walk.Before.TheVariants.{Other, RowOf, MapOf}
 use Rattle.row_format.specs.Changes.{AreFitChanges}
 use Rattle.binlog_events.specs.Changes.{change_events}
 use Rattle.binlog_events.specs.Items.{item_spelling, items_of_changes, list_spelling, is_on_table, AreListed}
 use Rattle.row_format.specs.Reading.{◌>>=◌, where_so, byte_at, piece_at}
-use Rattle.binlog_events.specs.Walking.{map_before, item_at, may_end, items_at, list_at}
+use Rattle.binlog_events.specs.Walking.{Before, Other, RowOf, MapOf, map_before, item_at, may_end, items_at, list_at}
 use Rattle.row_format.proofs.PieceLemmas.{IsBytes, bind_some, some_is, where_some, where_true, Took, Took-then, byte_takes, piece_takes, piece_again, le32_back, le32_again, le32_below}
 use Rattle.binlog_events.proofs.WalkLemmas.{IsKnown, Follows, item_takes, Reads, changes_again}
 

@@ -12,8 +12,6 @@ use Rattle.frame_codec.proofs.ChainLemmas.{chain_of-nil, chain_of-cons, chain_of
 use Rattle.framed_file.specs.Framed.{IsPrefix}
 use Rattle.row_format.specs.declared.change.Change.{Change}
 use Rattle.row_format.specs.declared.change.Transaction.{Transaction}
-use Rattle.binlog_events.specs.declared.walk.Before.{Before}
-use Rattle.binlog_events.specs.declared.walk.Before.TheVariants.{Other}
 use Rattle.binlog_events.specs.declared.events.End.{End}
 use Rattle.binlog_events.specs.declared.events.Found.{Found}
 use Rattle.row_format.specs.declared.fault.Unread.{Unread}
@@ -23,7 +21,7 @@ use Rattle.binlog_events.specs.Transaction.{begin, xid_event, events_of, IsTrans
 use Rattle.binlog_events.specs.Found.{NoTransactionAt, Finds}
 use Rattle.binlog_events.specs.Frames.{IsNext, told_events, TellsChanges, NoChanges, FailsFor}
 use Rattle.row_format.specs.Reading.{◌>>=◌, where_so, Fails}
-use Rattle.binlog_events.specs.Walking.{Item, event_item, Ending, with_changes, xid_ends, xid_at, told_in, is_begin, may_end}
+use Rattle.binlog_events.specs.Walking.{Before, Other, Item, event_item, Ending, with_changes, xid_ends, xid_at, told_in, is_begin, may_end}
 use Rattle.row_format.proofs.PieceLemmas.{IsBytes, IsBytes-take, IsBytes-drop, IsBytes-rest, some_is}
 use Rattle.binlog_events.proofs.WalkLemmas.{changes_again}
 use Rattle.binlog_events.proofs.WriteLemmas.{chain_of_one}

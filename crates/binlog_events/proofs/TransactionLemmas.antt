@@ -11,13 +11,11 @@ use Rattle.frame_codec.specs.Frame.{Event}
 use Rattle.frame_codec.proofs.FrameLemmas.{length-le64}
 use Rattle.row_format.specs.declared.change.Change.{Change}
 use Rattle.row_format.specs.declared.change.Transaction.{Transaction}
-use Rattle.binlog_events.specs.declared.walk.Before.{Before}
-use Rattle.binlog_events.specs.declared.walk.Before.TheVariants.{Other, RowOf, MapOf}
 use Rattle.row_format.specs.Changes.{AreFitChanges}
 use Rattle.binlog_events.specs.Changes.{change_events}
 use Rattle.binlog_events.specs.Transaction.{begin, xid_event, events_of, IsFit}
 use Rattle.row_format.specs.Reading.{◌>>=◌, where_so}
-use Rattle.binlog_events.specs.Walking.{Item, map_before, item_at, may_end, event_item, Ending, with_changes, xid_ends, told_in, is_begin, transaction_in}
+use Rattle.binlog_events.specs.Walking.{Before, Other, RowOf, MapOf, Item, map_before, item_at, may_end, event_item, Ending, with_changes, xid_ends, told_in, is_begin, transaction_in}
 use Rattle.row_format.proofs.PieceLemmas.{IsBytes, bind_some, some_is, where_some, where_true, le64_back, le64_again, le64_below}
 use Rattle.binlog_events.proofs.WalkLemmas.{IsKnown, Follows, Leads, item_takes, Reads, changes_again}
 

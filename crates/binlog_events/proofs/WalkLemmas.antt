@@ -1,25 +1,23 @@
 -- Changes read item by item: what was read is what was written, and what was written is read again.
 use Rattle.std.proofs.Common.{◌≡◌, ℕ, Bool, true, false, cond, List, [], ◌∷◌, ◌++◌, Option, Some, None, refl, sym, ap, subst, ◌∙◌, append_assoc, inl, inr, ◌⊎◌, ◌<◌, ◌^◌, arith}
-use Rattle.std.specs.Prelude.{◌==◌, not}
+use Rattle.std.specs.Prelude.{◌==◌, not, is_some}
 use Rattle.std.specs.Int.{w32, from_le_bytes}
 use Rattle.frame_codec.specs.Bytes.{le32}
 use Rattle.frame_codec.proofs.FrameLemmas.{length-le32}
-use Rattle.std.proofs.lemmas.Bool.{eqb-true, cases_Bool, not-false}
+use Rattle.std.proofs.lemmas.Bool.{false≢true, eqb-true, cases_Bool, not-false}
 use Rattle.frame_codec.specs.Frame.{Event}
 use Rattle.sql_value.specs.declared.value.Value.{Value}
 use Rattle.row_format.specs.declared.schema.Schema.{Schema}
 use Rattle.row_format.specs.declared.change.TableMap.{TableMap}
 use Rattle.row_format.specs.declared.change.Change.{Change}
 use Rattle.row_format.specs.declared.change.Change.TheVariants.{Install, Uninstall, Create, Drop, Insert, Update, Delete}
-use Rattle.binlog_events.specs.declared.walk.Before.{Before}
-use Rattle.binlog_events.specs.declared.walk.Before.TheVariants.{Other, RowOf, MapOf}
 use Rattle.sql_value.specs.Names.{IsName}
 use Rattle.row_format.specs.Schemas.{same_map, IsSchema}
 use Rattle.row_format.specs.Spelling.{counted, schema_spelling, map_spelling, row_image}
 use Rattle.row_format.specs.Changes.{IsMap, IsPlace, IsFitChange, AreFitChanges}
 use Rattle.binlog_events.specs.Changes.{map_event, change_event, map_of, map_for, needs_map, change_events}
 use Rattle.row_format.specs.Reading.{◌>>=◌, where_so, byte_at, piece_at, name_at, schema_at, map_at, row_at}
-use Rattle.binlog_events.specs.Walking.{Item, create_at, named_at, query_of, query_at, query_item, may_follow, map_item, is_place, place_at, insert_at, update_at, delete_at, row_change_at, map_before, row_item, item_at, may_end}
+use Rattle.binlog_events.specs.Walking.{Before, Other, RowOf, MapOf, behind, before_of, Item, create_at, named_at, query_of, query_at, query_item, may_follow, map_item, is_place, place_at, insert_at, update_at, delete_at, row_change_at, map_before, row_item, item_at, may_end}
 use Rattle.row_format.proofs.PieceLemmas.{IsBytes, bind_some, some_is, where_some, where_true, Took, Took-then, byte_takes, piece_takes, piece_again, name_takes, name_again, le32_back, le32_again, le32_below}
 use Rattle.row_format.proofs.SchemaLemmas.{schema_takes, schema_again, map_takes, map_again}
 use Rattle.row_format.proofs.RowLemmas.{row_takes, row_again}
@@ -388,6 +386,13 @@ query_item_again : (before : Before) (change : Change) (rest : List ℕ) → may
 query_item_again Other change rest ends fit no_map = rw (query_again change rest fit no_map) refl
 query_item_again (RowOf map) change rest ends fit no_map = rw (query_again change rest fit no_map) refl
 query_item_again (MapOf map) change rest ends fit no_map = absurd cc
+
+-- a QUERY that was read, where no table map waits
+pub query_item_is : (waiting last : Option TableMap) (bytes : List ℕ) (change : Change) (rest : List ℕ) → is_some waiting ≡ false → query_at bytes ≡ Some (change, rest)
+    → map_of change ≡ None → query_item (before_of waiting last) bytes ≡ Some (record { changes = change ∷ []; before = behind (map_of change) }, rest)
+query_item_is (Some map) last bytes change rest free is no_map = absurd (false≢true (sym free))
+query_item_is None None bytes change rest free is no_map = rw is (rw no_map refl)
+query_item_is None (Some map) bytes change rest free is no_map = rw is (rw no_map refl)
 
 query_item_at : (before : Before) (bytes : List ℕ) → item_at before 2 bytes ≡ query_item before bytes
 unfolding item_at

@@ -4,10 +4,9 @@ use Rattle.std.proofs.lemmas.Bool.{false≢true, eq-eqb}
 use Rattle.frame_codec.specs.Frame.{Event}
 use Rattle.row_format.specs.declared.change.Change.{Change}
 use Rattle.row_format.specs.declared.change.Transaction.{Transaction}
-use Rattle.binlog_events.specs.declared.walk.Before.{Before}
-use Rattle.binlog_events.specs.declared.walk.Before.TheVariants.{Other}
 use Rattle.binlog_events.specs.Changes.{change_events}
 use Rattle.binlog_events.specs.Transaction.{begin, xid_event, events_of, IsFit}
+use Rattle.binlog_events.specs.Walking.{Before, Other}
 use Rattle.binlog_events.proofs.WalkLemmas.{Reads, changes_again}
 use Rattle.binlog_events.proofs.TransactionLemmas.{not_xid}
 

@@ -1,29 +1,52 @@
 -- Which changes do items or events tell, read one after the other?
-use Rattle.std.specs.Prelude.{ℕ, zero, suc, List, [], ◌∷◌, ◌++◌, length, Option, Some, None, Bool, true, false, cond, not, ◌==◌, ◌&&◌, nat_lt}
+use Rattle.std.specs.Prelude.{ℕ, zero, suc, ◌-◌, List, [], ◌∷◌, ◌++◌, length, Option, Some, None, Bool, true, false, cond, not, ◌==◌, ◌&&◌, nat_lt, slice_get}
 use Rattle.std.specs.Int.{w32, w64, from_le_bytes}
 use Rattle.std.specs.List.{list_all}
 use Rattle.std.specs.Str.{bytes_eq}
-use Rattle.std.specs.Option.{option_to_list}
 use Rattle.frame_codec.specs.Frame.{Event}
 use Rattle.row_format.specs.declared.change.TableMap.{TableMap}
 use Rattle.row_format.specs.declared.change.Change.{Change}
 use Rattle.row_format.specs.declared.change.Change.TheVariants.{Install, Uninstall, Create, Drop, Insert, Update, Delete}
 use Rattle.row_format.specs.declared.change.Transaction.{Transaction}
-use Rattle.binlog_events.specs.declared.walk.Before.{Before}
 use Rattle.binlog_events.specs.declared.walk.Told.{Told}
-use Rattle.binlog_events.specs.declared.walk.Before.TheVariants.{Other, RowOf, MapOf}
+use Rattle.binlog_events.specs.declared.walk.Told.TheVariants.{Made, Map}
 use Rattle.row_format.specs.Schemas.{same_map}
 use Rattle.row_format.specs.Reading.{◌>>=◌, where_so, byte_at, piece_at, name_at, schema_at, map_at, row_at}
+use Rattle.binlog_events.specs.Changes.{map_of}
 use Rattle.binlog_events.specs.Items.{is_on_table}
+
+-- What stands before an item.
+pub data Before : Type 0 where
+  -- nothing, or a change that is no row change
+  Other : Before
+  -- a row change with this table map
+  RowOf : TableMap → Before
+  -- this table map, whose row change is still to come
+  MapOf : TableMap → Before
 
 -- what an item tells, a change or none, and what then stands before the next one
 pub record Item : Type 0 where
   pub changes : List Change
   pub before : Before
 
+-- the table map of the last change, where that is a row change
+abbrev pub last_map : List Change → Option TableMap
+last_map changes = slice_get changes (length changes - 1) >>= map_of
+
+-- what stands before an item behind a change with this table map, or with none
+abbrev pub behind : Option TableMap → Before
+behind None = Other
+behind (Some map) = RowOf map
+
+-- what stands before an item behind a table map that waits for its row change, or else behind a change with the last table map, or with none
+abbrev pub before_of : Option TableMap → Option TableMap → Before
+before_of (Some map) last = MapOf map
+before_of None last = behind last
+
 -- what a function of the code told
 abbrev pub item_of : Told → Item
-item_of told = record { changes = option_to_list told.change; before = told.before }
+item_of (Made change) = record { changes = change ∷ []; before = behind (map_of change) }
+item_of (Map map) = record { changes = []; before = MapOf map }
 
 -- a Create behind its first byte
 unfoldable pub create_at : List ℕ → Option (Change × List ℕ)

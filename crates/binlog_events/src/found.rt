@@ -1,17 +1,19 @@
 //! Reading a transaction that stands in the log.
 //!
 //! Invariant: what was read so far are the frames of a BEGIN and of the events that told these changes (`Walked`).
-ghost use Rattle.std.specs.Prelude.{◌≡◌, ◌≤◌, ◌<◌, ◌+◌, IfOk, IfSome, IfNone, IfErr};
+ghost use Rattle.std.specs.Prelude.{◌≡◌, ◌≤◌, ◌<◌, ◌+◌, Option, IfOk, IfSome, IfNone, IfErr};
+ghost use Rattle.std.specs.Option.{option_copied};
+ghost use Rattle.row_format.specs.declared.change.TableMap.{TableMap};
 ghost use Rattle.frame_codec.specs.Frame.{Event, IsFrameAt};
 ghost use Rattle.binlog_events.specs.Found.{Finds, NoTransactionAt};
 ghost use Rattle.binlog_events.specs.Frames.{IsNext, TellsChanges, NoChanges, FailsFor};
 ghost use Rattle.row_format.specs.Reading.{Gives};
-ghost use Rattle.binlog_events.specs.Walking.{item_of, is_begin, event_item, xid_at};
+ghost use Rattle.binlog_events.specs.Walking.{item_of, before_of, is_begin, event_item, xid_at};
 
 use crate::events::{End, Found};
-use crate::walk::{Before, Told, is_complete, keep, take_item};
+use crate::walk::{Told, is_complete, keep, last_map, take_item};
 use frame_codec::frame_at;
-use row_format::{Change, Changes, Transaction, Unread};
+use row_format::{Change, Changes, TableMap, Transaction, Unread};
 use std::alloc::{AllocError, Global};
 
 // The event whose frame stands next, what stands behind the frame, and where that is.
@@ -51,10 +53,17 @@ fn begins(kind: u8, body: &[u8]) -> bool
 
 // What an event tells as an item, all of it.
 #[tactic(auto, unfolding(crate::specs::Walking::event_item))]
-fn take_event(alloc: Global, before: Before, kind: u8, body: &[u8]) -> Result<Told, Unread>
-    ensures { Gives item_of result (event_item before (record { kind = kind; body = body.now })) }
+fn take_event(
+    alloc: Global,
+    waiting: Option<TableMap>,
+    last: Option<&TableMap>,
+    kind: u8,
+    body: &[u8],
+) -> Result<Told, Unread>
+    ensures { Gives item_of result (event_item (before_of waiting (option_copied last.entry))
+        (record { kind = kind; body = body.now })) }
 {
-    let (told, rest) = take_item(alloc, before, kind, body)?;
+    let (told, rest) = take_item(alloc, waiting, last, kind, body)?;
     if rest.is_empty() {
         Ok(told)
     } else {
@@ -66,10 +75,10 @@ fn take_event(alloc: Global, before: Before, kind: u8, body: &[u8]) -> Result<To
 const XID_KIND: u8 = 16;
 
 // The xid that an XID event tells, where no table map waits before it.
-fn xid_of(before: &Before, body: &[u8]) -> Option<u64>
-    ensures { result ≡ xid_at before.now body.now }
+fn xid_of(waiting: &Option<TableMap>, body: &[u8]) -> Option<u64>
+    ensures { (last : Option TableMap) → result ≡ xid_at (before_of waiting.now last) body.now }
 {
-    if !is_complete(before) || body.len() != 8 {
+    if !is_complete(waiting) || body.len() != 8 {
         return None;
     }
     let (xid, _) = body.split_first_chunk::<8>()?;
@@ -93,7 +102,7 @@ fn take_changes(alloc: Global, bytes: &[u8], start: End) -> Result<Ended<'_>, Un
     ensures absent { IfErr result (λ e. FailsFor e (NoChanges start bytes.now)) }
 {
     let mut changes = Vec::new(alloc);
-    let mut before = Before::Other;
+    let mut waiting = None;
     let mut rest = bytes;
     let mut end = start;
     'events: loop {
@@ -101,7 +110,7 @@ fn take_changes(alloc: Global, bytes: &[u8], start: End) -> Result<Ended<'_>, Un
             return Err(Unread::Absent);
         };
         if next.kind == XID_KIND {
-            let Some(xid) = xid_of(&before, next.body) else {
+            let Some(xid) = xid_of(&waiting, next.body) else {
                 return Err(Unread::Absent);
             };
             if changes.as_slice().is_empty() {
@@ -114,9 +123,8 @@ fn take_changes(alloc: Global, bytes: &[u8], start: End) -> Result<Ended<'_>, Un
                 end: next.end,
             });
         }
-        let told = take_event(alloc, before, next.kind, next.body)?;
-        keep(&mut changes, told.change)?;
-        before = told.before;
+        let told = take_event(alloc, waiting, last_map(&changes), next.kind, next.body)?;
+        waiting = keep(&mut changes, told)?;
         rest = next.rest;
         end = next.end;
     }

@@ -7,11 +7,10 @@ ghost use Rattle.row_format.specs.Changes.{IsMap, IsFitChange, AreFitChanges};
 ghost use Rattle.binlog_events.specs.Changes.{change_event, map_events, map_told};
 ghost use Rattle.binlog_events.specs.Items.{item_spelling, items_of_changes, list_spelling, is_on_table, AreListed, NoList};
 ghost use Rattle.row_format.specs.Reading.{Gives};
-ghost use Rattle.binlog_events.specs.Walking.{items_at, list_at};
-ghost use Rattle.binlog_events.specs.declared.walk.Before.TheVariants.{Other};
+ghost use Rattle.binlog_events.specs.Walking.{Other, items_at, list_at};
 
 use crate::spell::{MAP_KIND, add_body, kind_of, map_needed, own_map};
-use crate::walk::{Before, is_complete, keep, take_item};
+use crate::walk::{is_complete, keep, last_map, take_item};
 use row_format::{Change, Changes, TableMap, Unread, add_map, finish, take_byte};
 use std::alloc::{AllocError, Global};
 
@@ -125,18 +124,17 @@ fn take_items(alloc: Global, count: u32, bytes: &[u8]) -> Result<(Vec<Change>, &
     ensures { Gives (λ x. (x.0.items, x.1.now)) result (items_at count Other bytes.now) }
 {
     let mut changes = Vec::new(alloc);
-    let mut before = Before::Other;
+    let mut waiting = None;
     let mut rest = bytes;
     let mut left = count;
     while left > 0 {
         let (kind, body) = take_byte(rest)?;
-        let (told, behind) = take_item(alloc, before, kind, body)?;
-        keep(&mut changes, told.change)?;
-        before = told.before;
+        let (told, behind) = take_item(alloc, waiting, last_map(&changes), kind, body)?;
+        waiting = keep(&mut changes, told)?;
         rest = behind;
         left -= 1;
     }
-    if is_complete(&before) {
+    if is_complete(&waiting) {
         Ok((changes, rest))
     } else {
         Err(Unread::Absent)

@@ -1,38 +1,42 @@
 //! Reading changes item by item, in a log or in a journal.
 //!
-//! Invariant: an item is read by what stands before it (`Before`), so that each list of changes is read from one list of items only.
-ghost use Rattle.std.specs.Prelude.{◌≡◌, ◌++◌, Some, None, OnOk};
-ghost use Rattle.std.specs.Option.{option_to_list};
+//! Invariant: an item is read by what stands before it (`before_of`): the table map that was read last, which waits for its row change,
+//! or the last change. So each list of changes is read from one list of items only.
+ghost use Rattle.std.specs.Prelude.{◌≡◌, ◌++◌, Option, Some, None, IfOk, OnOk};
+ghost use Rattle.std.specs.Option.{option_copied};
+ghost use Rattle.row_format.specs.declared.change.TableMap.{TableMap};
 ghost use Rattle.row_format.specs.Reading.{Gives};
-ghost use Rattle.binlog_events.specs.Walking.{item_of, create_at, named_at, query_at, may_follow, query_item, map_item, is_place, place_at, insert_at, update_at, delete_at, row_change_at, row_item, item_at, may_end};
+ghost use Rattle.binlog_events.specs.Changes.{map_of};
+ghost use Rattle.binlog_events.specs.Walking.{item_of, last_map, before_of, create_at, named_at, query_at, may_follow, query_item, map_item};
+ghost use Rattle.binlog_events.specs.Walking.{is_place, place_at, insert_at, update_at, delete_at, row_change_at, map_before, row_item};
+ghost use Rattle.binlog_events.specs.Walking.{item_at, may_end};
 ghost use Rattle.row_format.specs.declared.change.Change.TheVariants.{Install, Uninstall, Drop};
-ghost use Rattle.binlog_events.specs.declared.walk.Before.TheVariants.{RowOf};
 
+use crate::spell::own_map;
 use row_format::{Change, TableMap, Unread, take_byte, take_map, take_name, take_row, take_schema};
 use std::alloc::{AllocError, Global};
 
-/// What stands before an item.
+/// What an item told.
 #[derive(Drop)]
-pub(crate) enum Before {
-    /// Nothing, or a change that is no row change.
-    Other,
-    /// A row change with this table map.
-    RowOf(TableMap),
-    /// This table map, whose row change is still to come.
-    MapOf(TableMap),
+pub(crate) enum Told {
+    /// A change.
+    Made(Change),
+    /// A table map, whose row change is still to come.
+    Map(TableMap),
 }
 
-/// What an item told, a change or none, and what now stands before the next one.
-#[derive(Drop)]
-pub(crate) struct Told {
-    pub change: Option<Change>,
-    pub before: Before,
+/// The table map of the last change, where that is a row change.
+pub(crate) fn last_map(changes: &[Change]) -> Option<&TableMap>
+    ensures { option_copied result ≡ last_map changes.now }
+{
+    own_map(changes.last()?)
 }
 
 // A Create behind its first byte.
 #[tactic(auto, unfolding(crate::specs::Walking::create_at))]
 fn take_create(alloc: Global, bytes: &[u8]) -> Result<(Change, &[u8]), Unread>
-    ensures { Gives (λ x. (x.0, x.1.now)) result (create_at bytes.now) }
+    ensures value { Gives (λ x. (x.0, x.1.now)) result (create_at bytes.now) }
+    ensures map { IfOk result (λ x. map_of x.0 ≡ None) }
 {
     let (table, rest) = take_name(alloc, bytes)?;
     let (engine, rest) = take_name(alloc, rest)?;
@@ -50,7 +54,8 @@ fn take_create(alloc: Global, bytes: &[u8]) -> Result<(Change, &[u8]), Unread>
 // A Drop behind its first byte.
 #[tactic(auto, unfolding(crate::specs::Walking::named_at))]
 fn take_drop(alloc: Global, bytes: &[u8]) -> Result<(Change, &[u8]), Unread>
-    ensures { Gives (λ x. (x.0, x.1.now)) result (named_at Drop bytes.now) }
+    ensures value { Gives (λ x. (x.0, x.1.now)) result (named_at Drop bytes.now) }
+    ensures map { IfOk result (λ x. map_of x.0 ≡ None) }
 {
     let (table, rest) = take_name(alloc, bytes)?;
     Ok((Change::Drop { table }, rest))
@@ -59,7 +64,8 @@ fn take_drop(alloc: Global, bytes: &[u8]) -> Result<(Change, &[u8]), Unread>
 // An Install behind its first byte.
 #[tactic(auto, unfolding(crate::specs::Walking::named_at))]
 fn take_install(alloc: Global, bytes: &[u8]) -> Result<(Change, &[u8]), Unread>
-    ensures { Gives (λ x. (x.0, x.1.now)) result (named_at Install bytes.now) }
+    ensures value { Gives (λ x. (x.0, x.1.now)) result (named_at Install bytes.now) }
+    ensures map { IfOk result (λ x. map_of x.0 ≡ None) }
 {
     let (name, rest) = take_name(alloc, bytes)?;
     Ok((Change::Install { name }, rest))
@@ -68,7 +74,8 @@ fn take_install(alloc: Global, bytes: &[u8]) -> Result<(Change, &[u8]), Unread>
 // An Uninstall behind its first byte.
 #[tactic(auto, unfolding(crate::specs::Walking::named_at))]
 fn take_uninstall(alloc: Global, bytes: &[u8]) -> Result<(Change, &[u8]), Unread>
-    ensures { Gives (λ x. (x.0, x.1.now)) result (named_at Uninstall bytes.now) }
+    ensures value { Gives (λ x. (x.0, x.1.now)) result (named_at Uninstall bytes.now) }
+    ensures map { IfOk result (λ x. map_of x.0 ≡ None) }
 {
     let (name, rest) = take_name(alloc, bytes)?;
     Ok((Change::Uninstall { name }, rest))
@@ -77,7 +84,8 @@ fn take_uninstall(alloc: Global, bytes: &[u8]) -> Result<(Change, &[u8]), Unread
 // The change of a QUERY.
 #[tactic(auto, unfolding(crate::specs::Walking::query_at))]
 fn take_query(alloc: Global, bytes: &[u8]) -> Result<(Change, &[u8]), Unread>
-    ensures { Gives (λ x. (x.0, x.1.now)) result (query_at bytes.now) }
+    ensures value { Gives (λ x. (x.0, x.1.now)) result (query_at bytes.now) }
+    ensures map { IfOk result (λ x. map_of x.0 ≡ None) }
 {
     let (byte, rest) = take_byte(bytes)?;
     match byte {
@@ -90,47 +98,45 @@ fn take_query(alloc: Global, bytes: &[u8]) -> Result<(Change, &[u8]), Unread>
 }
 
 // A QUERY, behind no table map.
-fn take_query_item(alloc: Global, before: Before, bytes: &[u8]) -> Result<(Told, &[u8]), Unread>
-    ensures { Gives (λ x. (item_of x.0, x.1.now)) result (query_item before bytes.now) }
+fn take_query_item(
+    alloc: Global,
+    waiting: Option<TableMap>,
+    bytes: &[u8],
+) -> Result<(Told, &[u8]), Unread>
+    ensures { (last : Option TableMap) → Gives (λ x. (item_of x.0, x.1.now)) result
+        (query_item (before_of waiting last) bytes.now) }
 {
-    if let Before::MapOf(_) = before {
+    if waiting.is_some() {
         return Err(Unread::Absent);
     }
     let (change, rest) = take_query(alloc, bytes)?;
-    Ok((
-        Told {
-            change: Some(change),
-            before: Before::Other,
-        },
-        rest,
-    ))
+    Ok((Told::Made(change), rest))
 }
 
 // Whether a table map may stand here.
-fn may_stand(before: &Before, map: &TableMap) -> bool
-    ensures { result ≡ may_follow before.now map.now }
+fn may_stand(waiting: &Option<TableMap>, last: Option<&TableMap>, map: &TableMap) -> bool
+    ensures { result ≡ may_follow (before_of waiting.now (option_copied last.entry)) map.now }
 {
-    match before {
-        Before::Other => true,
-        Before::RowOf(it) => !it.is_same(map),
-        Before::MapOf(_) => false,
+    match (waiting, last) {
+        (Some(_), _) => false,
+        (None, Some(it)) => !it.is_same(map),
+        (None, None) => true,
     }
 }
 
 // A table map.
-fn take_map_item(alloc: Global, before: Before, bytes: &[u8]) -> Result<(Told, &[u8]), Unread>
-    ensures { Gives (λ x. (item_of x.0, x.1.now)) result (map_item before bytes.now) }
+fn take_map_item<'a>(
+    alloc: Global,
+    waiting: Option<TableMap>,
+    last: Option<&TableMap>,
+    bytes: &'a [u8],
+) -> Result<(Told, &'a [u8]), Unread>
+    ensures { Gives (λ x. (item_of x.0, x.1.now)) result
+        (map_item (before_of waiting (option_copied last.entry)) bytes.now) }
 {
     let (map, rest) = take_map(alloc, bytes)?;
-    if may_stand(&before, &map) {
-        let before = Before::MapOf(map);
-        Ok((
-            Told {
-                change: None,
-                before,
-            },
-            rest,
-        ))
+    if may_stand(&waiting, last, &map) {
+        Ok((Told::Map(map), rest))
     } else {
         Err(Unread::Absent)
     }
@@ -165,7 +171,8 @@ fn take_place(key: Option<u8>, bytes: &[u8]) -> Result<(u32, &[u8]), Unread>
 // An Insert into the table of this map.
 #[tactic(auto, unfolding(crate::specs::Walking::insert_at))]
 fn take_insert(alloc: Global, map: TableMap, bytes: &[u8]) -> Result<(Change, &[u8]), Unread>
-    ensures { Gives (λ x. (x.0, x.1.now)) result (insert_at map bytes.now) }
+    ensures value { Gives (λ x. (x.0, x.1.now)) result (insert_at map bytes.now) }
+    ensures map { IfOk result (λ x. map_of x.0 ≡ Some map) }
 {
     let (row, rest) = take_row(alloc, &map.schema, bytes)?;
     Ok((Change::Insert { map, row }, rest))
@@ -174,7 +181,8 @@ fn take_insert(alloc: Global, map: TableMap, bytes: &[u8]) -> Result<(Change, &[
 // An Update of the table of this map.
 #[tactic(auto, unfolding(crate::specs::Walking::update_at))]
 fn take_update(alloc: Global, map: TableMap, bytes: &[u8]) -> Result<(Change, &[u8]), Unread>
-    ensures { Gives (λ x. (x.0, x.1.now)) result (update_at map bytes.now) }
+    ensures value { Gives (λ x. (x.0, x.1.now)) result (update_at map bytes.now) }
+    ensures map { IfOk result (λ x. map_of x.0 ≡ Some map) }
 {
     let (place, rest) = take_place(map.schema.key, bytes)?;
     let (before, rest) = take_row(alloc, &map.schema, rest)?;
@@ -193,7 +201,8 @@ fn take_update(alloc: Global, map: TableMap, bytes: &[u8]) -> Result<(Change, &[
 // A Delete from the table of this map.
 #[tactic(auto, unfolding(crate::specs::Walking::delete_at))]
 fn take_delete(alloc: Global, map: TableMap, bytes: &[u8]) -> Result<(Change, &[u8]), Unread>
-    ensures { Gives (λ x. (x.0, x.1.now)) result (delete_at map bytes.now) }
+    ensures value { Gives (λ x. (x.0, x.1.now)) result (delete_at map bytes.now) }
+    ensures map { IfOk result (λ x. map_of x.0 ≡ Some map) }
 {
     let (place, rest) = take_place(map.schema.key, bytes)?;
     let (before, rest) = take_row(alloc, &map.schema, rest)?;
@@ -207,7 +216,8 @@ fn take_row_change(
     kind: u8,
     bytes: &[u8],
 ) -> Result<(Change, &[u8]), Unread>
-    ensures { Gives (λ x. (x.0, x.1.now)) result (row_change_at kind map bytes.now) }
+    ensures value { Gives (λ x. (x.0, x.1.now)) result (row_change_at kind map bytes.now) }
+    ensures map { IfOk result (λ x. map_of x.0 ≡ Some map) }
 {
     match kind {
         30 => take_insert(alloc, map, bytes),
@@ -217,75 +227,75 @@ fn take_row_change(
     }
 }
 
-// A row change of the table of this map, which stood before it.
-fn take_row_of(
+// The table map by which a row is read: the one that waits, or a copy of that of the row change before.
+fn map_for_row(
     alloc: Global,
-    map: TableMap,
-    kind: u8,
-    bytes: &[u8],
-) -> Result<(Told, &[u8]), Unread>
-    ensures { Gives (λ x. (item_of x.0, x.1.now)) result (row_item (RowOf map) kind bytes.now) }
+    waiting: Option<TableMap>,
+    last: Option<&TableMap>,
+) -> Result<TableMap, Unread>
+    ensures { Gives (λ m. m) result (map_before (before_of waiting (option_copied last.entry))) }
 {
-    let copy = map.copy(alloc)?;
-    let (change, rest) = take_row_change(alloc, copy, kind, bytes)?;
-    Ok((
-        Told {
-            change: Some(change),
-            before: Before::RowOf(map),
-        },
-        rest,
-    ))
-}
-
-// A row change, behind a table map or a row change.
-fn take_row_item(
-    alloc: Global,
-    before: Before,
-    kind: u8,
-    bytes: &[u8],
-) -> Result<(Told, &[u8]), Unread>
-    ensures { Gives (λ x. (item_of x.0, x.1.now)) result (row_item before kind bytes.now) }
-{
-    match before {
-        Before::Other => Err(Unread::Absent),
-        Before::RowOf(map) => take_row_of(alloc, map, kind, bytes),
-        Before::MapOf(map) => take_row_of(alloc, map, kind, bytes),
+    match (waiting, last) {
+        (Some(map), _) => Ok(map),
+        (None, Some(map)) => Ok(map.copy(alloc)?),
+        (None, None) => Err(Unread::Absent),
     }
 }
 
-/// The item with this type byte whose body stands at the front of the bytes.
-#[tactic(auto, unfolding(crate::specs::Walking::item_at))]
-pub(crate) fn take_item(
+// A row change, behind a table map or a row change.
+fn take_row_item<'a>(
     alloc: Global,
-    before: Before,
+    waiting: Option<TableMap>,
+    last: Option<&TableMap>,
     kind: u8,
-    bytes: &[u8],
-) -> Result<(Told, &[u8]), Unread>
-    ensures { Gives (λ x. (item_of x.0, x.1.now)) result (item_at before kind bytes.now) }
+    bytes: &'a [u8],
+) -> Result<(Told, &'a [u8]), Unread>
+    ensures { Gives (λ x. (item_of x.0, x.1.now)) result
+        (row_item (before_of waiting (option_copied last.entry)) kind bytes.now) }
+{
+    let map = map_for_row(alloc, waiting, last)?;
+    let (change, rest) = take_row_change(alloc, map, kind, bytes)?;
+    Ok((Told::Made(change), rest))
+}
+
+/// The item with this type byte whose body stands at the front of the bytes, behind the table map that waits for its row change, or
+/// else behind a change with the last table map, or with none.
+#[tactic(auto, unfolding(crate::specs::Walking::item_at))]
+pub(crate) fn take_item<'a>(
+    alloc: Global,
+    waiting: Option<TableMap>,
+    last: Option<&TableMap>,
+    kind: u8,
+    bytes: &'a [u8],
+) -> Result<(Told, &'a [u8]), Unread>
+    ensures { Gives (λ x. (item_of x.0, x.1.now)) result
+        (item_at (before_of waiting (option_copied last.entry)) kind bytes.now) }
 {
     match kind {
-        2 => take_query_item(alloc, before, bytes),
-        19 => take_map_item(alloc, before, bytes),
-        _ => take_row_item(alloc, before, kind, bytes),
+        2 => take_query_item(alloc, waiting, bytes),
+        19 => take_map_item(alloc, waiting, last, bytes),
+        _ => take_row_item(alloc, waiting, last, kind, bytes),
     }
 }
 
 /// Whether no table map waits for its row change.
-pub(crate) fn is_complete(before: &Before) -> bool
-    ensures { result ≡ may_end before.now }
+pub(crate) fn is_complete(waiting: &Option<TableMap>) -> bool
+    ensures { (last : Option TableMap) → result ≡ may_end (before_of waiting.now last) }
 {
-    match before {
-        Before::MapOf(_) => false,
-        _ => true,
-    }
+    waiting.is_none()
 }
 
-/// Adds the change that an item told, where it told one.
-pub(crate) fn keep(changes: &mut Vec<Change>, change: Option<Change>) -> Result<(), AllocError>
-    ensures { OnOk result (changes.new.items ≡ changes.old.items ++ option_to_list change) }
+/// Adds the change that an item told, or answers the table map that it told, which now waits for its row change.
+pub(crate) fn keep(changes: &mut Vec<Change>, told: Told) -> Result<Option<TableMap>, AllocError>
+    ensures changes { OnOk result (changes.new.items ≡ changes.old.items ++ (item_of told).changes) }
+    ensures before { IfOk result (λ waiting.
+        before_of waiting (last_map changes.new.items) ≡ (item_of told).before) }
 {
-    if let Some(change) = change {
-        changes.push(change)?;
+    match told {
+        Told::Made(change) => {
+            changes.push(change)?;
+            Ok(None)
+        }
+        Told::Map(map) => Ok(Some(map)),
     }
-    Ok(())
 }
