@@ -3,3 +3,4 @@ pub mod StepLemmas
 pub mod ImageLemmas
 pub mod MomentLemmas
 pub mod SameLemmas
+pub mod OpenLemmas

@@ -57,7 +57,7 @@ engine_moments shelf it log a b d₀ d₁ apart holds first second run =
     })) run
 
 -- the same files
-same_files : (fs : List ℕ) (these those : ℕ → File) → ((f : ℕ) → Contains fs f → these f ≡ those f) → map these fs ≡ map those fs
+pub same_files : (fs : List ℕ) (these those : ℕ → File) → ((f : ℕ) → Contains fs f → these f ≡ those f) → map these fs ≡ map those fs
 same_files [] these those same = refl
 same_files (f ∷ fs) these those same = let first = same f (0, omega arith, refl) in let rest = same_files fs these those (λ g on. same g (suc on.0, omega (arith, on.1), on.2)) in cc
 
