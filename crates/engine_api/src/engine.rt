@@ -81,6 +81,10 @@ pub trait Engine: Drop {
             (OnlyIn (kind self.old).files (now (disk volume.old))
             (EachReadsAs (reading self.old) (files_in (kind self.old).files (disk volume.old)))) }
 
+        // What its files stand for is one gist.
+        ensures one_gist { (images : List (List ℕ)) (a b : Gist)
+            → (reading self.old).stands images a → (reading self.old).stands images b → a ≡ b }
+
         ensures not_a_volume { (file : ℕ) → result ≡ Err (NotAVolume file)
             → Contains (kind self.old).files file
             × (IsTrue (disk volume.old).told → (gist : Gist) → (reading self.old).stands

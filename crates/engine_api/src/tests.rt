@@ -41,7 +41,7 @@ impl Engine for NoMemory {
 
     ghost reading = { λ e. record {
       faithful = λ place file image. Unit {0};
-      stands = λ images gist. Unit {0};
+      stands = λ images gist. gist ≡ e.gist;
     } };
 
     ghost state = { λ e. begun_state e.gist };

@@ -1,5 +1,5 @@
 -- The engine begins from its files.
-use Rattle.std.proofs.Common.{◌≡◌, ℕ, ◌+◌, ◌<◌, ◌^◌, Option, Some, None, List, [], ◌∷◌, refl, sym, subst}
+use Rattle.std.proofs.Common.{◌≡◌, ℕ, ◌+◌, ◌<◌, ◌^◌, Option, Some, None, List, [], ◌∷◌, refl, sym, ap, ◌∙◌, subst}
 use Rattle.disk_model.specs.File.{File}
 use Rattle.disk_model.specs.Disk.{Disk, now, contents, Keeps}
 use Rattle.framed_file.specs.Framed.{header_len}
@@ -11,6 +11,7 @@ use Rattle.redo_journal.specs.declared.journal.Journal.{Journal}
 use Rattle.redo_journal.specs.Replays.{start, AllFit}
 use Rattle.redo_journal.specs.Journals.{StandsOn, Stands, IsNoJournal, IsJournalOn, IsJournal, IsSafe, first_file_of}
 use Rattle.redo_journal.specs.Opening.{Opens, StaysSafe, HasNoJournal}
+use Rattle.redo_journal.proofs.AreaLemmas.{one_list}
 use Rattle.engine_api.specs.States.{EngineState, begun_state}
 use Rattle.engine_api.specs.Reads.{EachReads, EachReadsAs, files_in, bytes_in, OnlyIn}
 use Rattle.journal_engine.specs.Engine.{files_of, gist_of, StandAs, journal_reading, IsHeld, IsWell}
@@ -38,6 +39,13 @@ stands_none first second records none stands =
 
 pub no_gist : (first : ℕ) (d : Disk) → HasNoJournal None first d → (gist : Gist) → StandAs (bytes_in (files_of first) d) gist → ⊥
 no_gist first d none gist stands = stands_none (contents d first) (contents d (first + 1)) stands.0 none stands.1
+
+-- two files stand for one gist at most: for that of the one list of records that they have
+pub one_gist : (images : List (List ℕ)) (a b : Gist) → StandAs images a → StandAs images b → a ≡ b
+one_gist [] a b of_a of_b = absurd of_a
+one_gist (first ∷ []) a b of_a of_b = absurd of_a
+one_gist (first ∷ second ∷ []) a b of_a of_b = sym of_a.2 ∙ ap gist_of (one_list None first second of_a.0 of_b.0 of_a.1 of_b.1) ∙ of_b.2
+one_gist (first ∷ second ∷ third ∷ rest) a b of_a of_b = absurd of_a
 
 -- the records of a journal fit
 pub journal_fits : (journal : Journal) (records : List Record) → IsJournal journal records → AllFit header_len start records
