@@ -16,7 +16,6 @@ use Rattle.row_format.specs.declared.change.Transaction.{Transaction}
 use Rattle.log_tables.specs.declared.gist.Prepared.{Prepared}
 use Rattle.log_tables.specs.declared.gist.Gist.{Gist}
 use Rattle.log_tables.specs.Gists.{is_prepared}
-use Rattle.recovery_rules.specs.Trails.{Trails}
 use Rattle.recovery_rules.proofs.TrailsLemmas.{IsAtLog-none_prepared}
 use Rattle.engine_api.specs.declared.fault.Code.{Code}
 use Rattle.engine_api.specs.declared.fault.EngineFault.{EngineFault}
@@ -31,8 +30,8 @@ use Rattle.xid_recovery.specs.declared.report.OpenFault.{OpenFault}
 use Rattle.xid_recovery.specs.declared.report.OpenFault.TheVariants.{NotAVolume, EngineMissing, Ahead}
 use Rattle.xid_recovery.specs.Faults.{opened}
 use Rattle.xid_recovery.specs.Pairs.{has, xids_in, CountsXids}
-use Rattle.xid_recovery.specs.Recovers.{IsIdle, IsBrought, IsDeviceFault, IsDoneOrOutside, IsRecoverableIn, Recovers, Reports, Found, IsReport, TellsOnly}
-use Rattle.xid_recovery.specs.Running.{Fits, Aims, IsEnd, IsOnWay, EachAims, Ran, HasPrepared, SoFar, RollingBack, Tells}
+use Rattle.xid_recovery.specs.Recovers.{IsIdle, IsBrought, IsDeviceFault, IsDoneOrOutside, GoesWith, IsRecoverableIn, Recovers, Reports, Found, IsReport, TellsOnly}
+use Rattle.xid_recovery.specs.Running.{StandForOne, Fits, Aims, IsEnd, IsOnWay, EachAims, Ran, HasPrepared, SoFar, RollingBack, Tells}
 use Rattle.xid_recovery.proofs.XidLemmas.{eqb_same, is_prepared-has, is_prepared-first, pairs-whole}
 use Rattle.xid_recovery.proofs.WayLemmas.{aims_on_way, is_end}
 use Rattle.xid_recovery.proofs.RunLemmas.{ran_none, ran_call, ran_both, idle_after, kept_aims}
@@ -41,14 +40,14 @@ use Rattle.xid_recovery.proofs.RunLemmas.{ran_none, ran_call, ran_both, idle_aft
 pub record Looked (was it : Working) (start end : Disk) : Type 0 where
   pub idle : IsIdle it end
   pub state : it.state ≡ was.state
-  pub ran : (aim : Option (List Transaction)) → Aims was.kind.name aim was.state.gist → Ran was it aim start end
+  pub ran : (aim : Option (List Transaction)) → Aims was.kind aim was.state.gist → Ran was it aim start end
 
 -- While it is asked the run goes on.
 pub ran_looked : {T : Type 0} (was it : Working) (result : Result T EngineFault) (a b : Disk) → IsIdle was a → IsSame was.kind it.kind was.reading it.reading
-    → Turns was.kind was.reading result was.state was.state it.state it.holds a b → (aim : Option (List Transaction)) → Aims was.kind.name aim was.state.gist → Ran was it aim a b
+    → Turns was.kind was.reading result was.state was.state it.state it.holds a b → (aim : Option (List Transaction)) → Aims was.kind aim was.state.gist → Ran was it aim a b
 ran_looked was it result a b idle same turns aim aims =
     ran_call was was it aim result was.state a a b (ran_none was aim a idle aims) same turns
-    (kept_aims was.kind.name aim was.state was.state idle.begun idle.begun aims aims)
+    (kept_aims was.kind aim was.state was.state idle.begun idle.begun aims aims)
 
 pub looked : {T : Type 0} (was it : Working) (value : T) (a b : Disk) → IsIdle was a → IsSame was.kind it.kind was.reading it.reading
     → Turns was.kind was.reading (Ok value) was.state was.state it.state it.holds a b → Looked was it a b
@@ -59,28 +58,28 @@ looked was it value a b idle same turns = record {
 }
 
 -- what is aimed at is the same for the engine as it is now
-aims_now : (was it : Working) (start end : Disk) (aim : Option (List Transaction)) → Looked was it start end → Aims was.kind.name aim was.state.gist → Aims it.kind.name aim it.state.gist
+aims_now : (was it : Working) (start end : Disk) (aim : Option (List Transaction)) → Looked was it start end → Aims was.kind aim was.state.gist → Aims it.kind aim it.state.gist
 aims_now was it start end aim looks aims =
-    subst (λ (s : EngineState). Aims it.kind.name aim s.gist) (sym looks.state)
-    (subst (λ (k : Kind). Aims k.name aim was.state.gist) (sym (looks.ran aim aims).same.kind) aims)
+    subst (λ (s : EngineState). Aims it.kind aim s.gist) (sym looks.state)
+    (subst (λ (k : Kind). Aims k aim was.state.gist) (sym (looks.ran aim aims).same.kind) aims)
 
 -- Commits follow.
 pub ran_committed : (was it new : Working) (pairs : List (ℕ × ℕ)) (a b c : Disk) → Looked was it a b
-    → ((aim : Option (List Transaction)) → Fits aim pairs → Aims it.kind.name aim it.state.gist → Ran it new aim b c)
-    → (aim : Option (List Transaction)) → Fits aim pairs → Aims was.kind.name aim was.state.gist → Ran was new aim a c
+    → ((aim : Option (List Transaction)) → Fits aim pairs → Aims it.kind aim it.state.gist → Ran it new aim b c)
+    → (aim : Option (List Transaction)) → Fits aim pairs → Aims was.kind aim was.state.gist → Ran was new aim a c
 ran_committed was it new pairs a b c looks runs aim fits aims =
     ran_both was it new aim a b c (looks.ran aim aims) (runs aim fits (aims_now was it a b aim looks aims))
 
 -- the engine is behind all pairs on its way
 way_done : (it mid : Working) (pairs : List (ℕ × ℕ)) (all left : BTreeSet ℕ) (b c : Disk) (aim : Option (List Transaction)) → SoFar it mid pairs (length pairs) all left b c
-    → Fits aim pairs → Aims it.kind.name aim it.state.gist → IsOnWay mid.kind.name aim (length pairs) mid.state.gist
+    → Fits aim pairs → Aims it.kind aim it.state.gist → IsOnWay mid.kind aim (length pairs) mid.state.gist
 way_done it mid pairs all left b c aim far fits aims =
-    subst (λ (k : Kind). IsOnWay k.name aim (length pairs) mid.state.gist) (sym (far.ran aim fits aims).same.kind) (far.on_way aim fits aims)
+    subst (λ (k : Kind). IsOnWay k aim (length pairs) mid.state.gist) (sym (far.ran aim fits aims).same.kind) (far.on_way aim fits aims)
 
 -- Rollbacks follow.
 pub ran_rolled : (was it mid new : Working) (pairs : List (ℕ × ℕ)) (all left : BTreeSet ℕ) (a b c d : Disk) → Looked was it a b → SoFar it mid pairs (length pairs) all left b c
-    → ((aim : Option (List Transaction)) (place : ℕ) → IsEnd aim place → IsOnWay mid.kind.name aim place mid.state.gist → Ran mid new aim c d)
-    → (aim : Option (List Transaction)) → Fits aim pairs → Aims was.kind.name aim was.state.gist → Ran was new aim a d
+    → ((aim : Option (List Transaction)) (place : ℕ) → IsEnd aim place → IsOnWay mid.kind aim place mid.state.gist → Ran mid new aim c d)
+    → (aim : Option (List Transaction)) → Fits aim pairs → Aims was.kind aim was.state.gist → Ran was new aim a d
 ran_rolled was it mid new pairs all left a b c d looks far runs aim fits aims =
     let there = aims_now was it a b aim looks aims in
     ran_both was mid new aim a c d (ran_committed was it mid pairs a b c looks far.ran aim fits aims)
@@ -88,12 +87,12 @@ ran_rolled was it mid new pairs all left a b c d looks far runs aim fits aims =
 
 -- At the end the gist is as is aimed at.
 pub aims_rolled : (was it mid new : Working) (pairs : List (ℕ × ℕ)) (all left rest : BTreeSet ℕ) (a b c d : Disk) → Looked was it a b → SoFar it mid pairs (length pairs) all left b c
-    → RollingBack mid new rest c d → (aim : Option (List Transaction)) → Fits aim pairs → Aims was.kind.name aim was.state.gist → Aims was.kind.name aim new.state.gist
+    → RollingBack mid new rest c d → (aim : Option (List Transaction)) → Fits aim pairs → Aims was.kind aim was.state.gist → Aims was.kind aim new.state.gist
 aims_rolled was it mid new pairs all left rest a b c d looks far rolling aim fits aims =
     let there = aims_now was it a b aim looks aims in
     let way = rolling.on_way aim (length pairs) (is_end aim pairs (length pairs) fits (omega arith)) (way_done it mid pairs all left b c aim far fits there) in
-    subst (λ (k : Kind). Aims k.name aim new.state.gist) (ran_committed was it mid pairs a b c looks far.ran aim fits aims).same.kind
-    (aims_on_way mid.kind.name aim (length pairs) new.state.gist way)
+    subst (λ (k : Kind). Aims k aim new.state.gist) (ran_committed was it mid pairs a b c looks far.ran aim fits aims).same.kind
+    (aims_on_way mid.kind aim (length pairs) new.state.gist way)
 
 -- The set of what is prepared.
 pub has_prepared : (was it : Working) (a b : Disk) (left : BTreeSet ℕ) (xs : List ℕ) → Looked was it a b → ((x : ℕ) → contains nat_cmp left x ≡ has x xs)
@@ -210,7 +209,7 @@ StartAims kind reading None disk = Unit {0}
 StartAims kind reading (Some log) disk = IsRecoverableIn kind reading log disk
 
 start_aims : (kind : Kind) (reading : Reading) (aim : Option (List Transaction)) (start : Disk) (files : List File) → StartAims kind reading aim start
-    → EachReadsAs reading (files_in kind.files start) files → EachAims kind.name aim reading files
+    → EachReadsAs reading (files_in kind.files start) files → EachAims kind aim reading files
 start_aims kind reading None start files aims reads = tt
 start_aims kind reading (Some log) start files aims reads = λ images faithful.
     let before = reads images faithful in
@@ -226,7 +225,7 @@ ran_begun was it result start a same cause moments aim aims = record {
   told = cause.told;
   later = cause.later;
   no_fewer = cause.no_fewer;
-  moments = λ told. weaker start a (OnlyIn was.kind.files (now start) (EachReadsAs was.reading (files_in was.kind.files start))) (OnlyIn was.kind.files (now start) (EachAims was.kind.name aim was.reading))
+  moments = λ told. weaker start a (OnlyIn was.kind.files (now start) (EachReadsAs was.reading (files_in was.kind.files start))) (OnlyIn was.kind.files (now start) (EachAims was.kind aim was.reading))
       (λ files only. (only.0, start_aims was.kind was.reading aim start (map files was.kind.files) aims only.1)) (moments told);
 }
 
@@ -252,35 +251,43 @@ begins_outside kind reading log start inner memory is told from not = tt
 -- Of all other files a run says that they are as they were.
 pub others : (was it : Working) (start b : Disk) → Ran was it None start b → IsTrue start.told → Keeps start b (OnlyIn was.kind.files (now start) (λ files. Unit {0}))
 others was it start b ran told =
-    weaker start b (OnlyIn was.kind.files (now start) (EachAims was.kind.name None was.reading)) (OnlyIn was.kind.files (now start) (λ files. Unit {0})) (λ files only. (only.0, tt)) (ran.moments told)
+    weaker start b (OnlyIn was.kind.files (now start) (EachAims was.kind None was.reading)) (OnlyIn was.kind.files (now start) (λ files. Unit {0})) (λ files only. (only.0, tt)) (ran.moments told)
 
--- What the engine began with trails the log.
-pub trails_begun : (was it : Working) (log : List Transaction) (start : Disk) → IsSame was.kind it.kind was.reading it.reading → IsRecoverableIn was.kind was.reading log start
-    → was.reading.stands (bytes_in was.kind.files start) it.state.gist → Trails it.kind.name log it.state.gist
-trails_begun was it log start same from stands = subst (λ (k : Kind). Trails k.name log it.state.gist) (sym same.kind) (from.contents it.state.gist stands)
+-- where the contents of recoverable files stand for one gist at most, it goes with the log
+goes_contents : (kind : Kind) (reading : Reading) (log : List Transaction) (start : Disk) (gist : Gist) → StandForOne reading
+    → IsRecoverableIn kind reading log start → reading.stands (bytes_in kind.files start) gist → GoesWith kind log gist
+goes_contents kind reading log start gist one from stands =
+    let there = from.images (bytes_in kind.files start) (at_contents reading 0 kind.files start) in
+    subst (GoesWith kind log) (one.one (bytes_in kind.files start) there.0 gist there.2 stands) there.1
+
+-- What the engine began with goes with the log.
+pub goes_begun : (was it : Working) (log : List Transaction) (start : Disk) → IsSame was.kind it.kind was.reading it.reading → StandForOne was.reading
+    → IsRecoverableIn was.kind was.reading log start → was.reading.stands (bytes_in was.kind.files start) it.state.gist → GoesWith it.kind log it.state.gist
+goes_begun was it log start same one from stands =
+    subst (λ (k : Kind). GoesWith k log it.state.gist) (sym same.kind) (goes_contents was.kind was.reading log start it.state.gist one from stands)
 
 -- A run that ended with a fault from outside.
 pub recovers_err : (was it : Working) (log : List Transaction) (fault : OpenFault) (start b : Disk) → Ran was it (Some log) start b → IsTrue start.told
     → IsDoneOrOutside {T = EngineReport} (Err fault) → Recovers was.kind was.reading log (Err fault) it.state start b
-recovers_err was it log fault start b ran told outside = record { moments = ran.moments told; trails = tt; at_log = tt; answers = outside }
+recovers_err was it log fault start b ran told outside = record { moments = ran.moments told; goes = tt; at_log = tt; answers = outside }
 
 -- A run that ended well.
 pub recovers_ok : (was it : Working) (log : List Transaction) (report : EngineReport) (start b : Disk) → Ran was it (Some log) start b → IsTrue start.told
-    → Trails was.kind.name log it.state.gist → it.state.gist.prepared ≡ [] → Recovers was.kind was.reading log (Ok report) it.state start b
-recovers_ok was it log report start b ran told trails none = record {
+    → GoesWith was.kind log it.state.gist → it.state.gist.prepared ≡ [] → Recovers was.kind was.reading log (Ok report) it.state start b
+recovers_ok was it log report start b ran told goes none = record {
   moments = ran.moments told;
-  trails = trails;
-  at_log = IsAtLog-none_prepared was.kind.name log it.state.gist trails none;
+  goes = goes;
+  at_log = IsAtLog-none_prepared was.kind.name log it.state.gist goes.trails none;
   answers = tt;
 }
 
 -- Of recoverable files the engine is not ahead.
-pub never_ahead : (kind : Kind) (reading : Reading) (log : List Transaction) (start : Disk) (gist : Gist) (logged : ℕ) → IsRecoverableIn kind reading log start
-    → reading.stands (bytes_in kind.files start) gist → logged ≡ length log → logged < gist.last → ⊥
-never_ahead kind reading log start gist logged from stands is less =
-    let trails = from.contents gist stands in
-    let low = trails.not_ahead in
-    omega (arith, low, is, less)
+pub recovers_ahead : (was it : Working) (log : List Transaction) (logged : ℕ) (fault : OpenFault) (start b : Disk) → StandForOne was.reading → Found was.kind was.reading start it.state.gist
+    → logged < it.state.gist.last → logged ≡ length log → IsTrue start.told → IsRecoverableIn was.kind was.reading log start
+    → Recovers was.kind was.reading log (Err fault) it.state start b
+recovers_ahead was it log logged fault start b one found less is told from =
+    let low = (goes_contents was.kind was.reading log start it.state.gist one from (found told)).trails.not_ahead in
+    absurd (omega (arith, low, is, less))
 
 may_outside : (fault : EngineFault) (files : List ℕ) → MayCome [] files true fault → IsDoneOrOutside {T = EngineReport} (Err (opened fault))
 may_outside (code it) files h = tt

@@ -7,7 +7,6 @@ use Rattle.disk_model.specs.Disk.{Disk, now, HasCause}
 use Rattle.disk_model.proofs.Moments.{both, weaker, started}
 use Rattle.row_format.specs.declared.change.Transaction.{Transaction}
 use Rattle.log_tables.specs.declared.gist.Gist.{Gist}
-use Rattle.recovery_rules.specs.Trails.{Trails}
 use Rattle.engine_api.specs.declared.fault.EngineFault.{EngineFault}
 use Rattle.engine_api.specs.States.{Kind, EngineState, begun_state, resolved, resolved_state, dropped_state}
 use Rattle.log_tables.specs.Gists.{prepared_with}
@@ -15,49 +14,49 @@ use Rattle.engine_api.specs.Reads.{Reading, SameReading, EachReads, OnlyIn, file
 use Rattle.engine_api.specs.Calls.{IsDevice, IsSame, Turns, AnswersOnly, MayCome}
 use Rattle.engine_api.specs.Many.{Working}
 use Rattle.engine_api.proofs.ManyLemmas.{faithful_as, reads_as, same_itself, same_reading}
-use Rattle.xid_recovery.specs.Recovers.{IsIdle}
+use Rattle.xid_recovery.specs.Recovers.{GoesWith, IsIdle}
 use Rattle.xid_recovery.specs.Running.{Aims, EachAims, Ran}
 
 -- what images read as
 
-reads_all : (e : List ℕ) (aim : Option (List Transaction)) (reading : Reading) (gists : List Gist) (files : List File) → ((g : Gist) → Contains gists g → Aims e aim g)
-    → EachReads reading gists files → EachAims e aim reading files
-reads_all e None reading gists files all reads = tt
-reads_all e (Some log) reading gists files all reads = λ images faithful.
+reads_all : (kind : Kind) (aim : Option (List Transaction)) (reading : Reading) (gists : List Gist) (files : List File) → ((g : Gist) → Contains gists g → Aims kind aim g)
+    → EachReads reading gists files → EachAims kind aim reading files
+reads_all kind None reading gists files all reads = tt
+reads_all kind (Some log) reading gists files all reads = λ images faithful.
     let it = reads images faithful in
     (it.0, all it.0 it.1, it.2)
 
 -- images that read as gists that are aimed at
-pub each_aims : (e : List ℕ) (aim : Option (List Transaction)) (was is : Reading) (gists : List Gist) (files : List File) → SameReading was is
-    → ((g : Gist) → Contains gists g → Aims e aim g) → EachReads is gists files → EachAims e aim was files
-each_aims e aim was is gists files same all reads = reads_all e aim was gists files all (reads_as was is gists gists files same (λ g h. h) reads)
+pub each_aims : (kind : Kind) (aim : Option (List Transaction)) (was is : Reading) (gists : List Gist) (files : List File) → SameReading was is
+    → ((g : Gist) → Contains gists g → Aims kind aim g) → EachReads is gists files → EachAims kind aim was files
+each_aims kind aim was is gists files same all reads = reads_all kind aim was gists files all (reads_as was is gists gists files same (λ g h. h) reads)
 
-both_aim : (e : List ℕ) (aim : Option (List Transaction)) (a b : Gist) → Aims e aim a → Aims e aim b → (g : Gist) → Contains (a ∷ b ∷ []) g → Aims e aim g
-both_aim e aim a b p q g (zero, lt, is) = subst (Aims e aim) is p
-both_aim e aim a b p q g (suc zero, lt, is) = subst (Aims e aim) is q
-both_aim e aim a b p q g (suc (suc k), lt, is) = absurd (omega (arith, lt))
+both_aim : (kind : Kind) (aim : Option (List Transaction)) (a b : Gist) → Aims kind aim a → Aims kind aim b → (g : Gist) → Contains (a ∷ b ∷ []) g → Aims kind aim g
+both_aim kind aim a b p q g (zero, lt, is) = subst (Aims kind aim) is p
+both_aim kind aim a b p q g (suc zero, lt, is) = subst (Aims kind aim) is q
+both_aim kind aim a b p q g (suc (suc k), lt, is) = absurd (omega (arith, lt))
 
 -- runs of calls
 
 -- before the first call
-pub ran_none : (was : Working) (aim : Option (List Transaction)) (d : Disk) → IsIdle was d → Aims was.kind.name aim was.state.gist → Ran was was aim d d
+pub ran_none : (was : Working) (aim : Option (List Transaction)) (d : Disk) → IsIdle was d → Aims was.kind aim was.state.gist → Ran was was aim d d
 ran_none was aim d idle aims = record {
   same = record { kind = refl; reading = same_itself was.reading };
   told = refl;
   later = omega arith;
   no_fewer = omega arith;
-  moments = λ told. started d (OnlyIn was.kind.files (now d) (EachAims was.kind.name aim was.reading))
-      ((λ f not. refl), each_aims was.kind.name aim was.reading was.reading (was.state.gist ∷ []) (files_in was.kind.files d) (same_itself was.reading) only (idle.files told).1);
+  moments = λ told. started d (OnlyIn was.kind.files (now d) (EachAims was.kind aim was.reading))
+      ((λ f not. refl), each_aims was.kind aim was.reading was.reading (was.state.gist ∷ []) (files_in was.kind.files d) (same_itself was.reading) only (idle.files told).1);
 }
   where
-    only : (g : Gist) → Contains (was.state.gist ∷ []) g → Aims was.kind.name aim g
-    only g (zero, lt, is) = subst (Aims was.kind.name aim) is aims
+    only : (g : Gist) → Contains (was.state.gist ∷ []) g → Aims was.kind aim g
+    only g (zero, lt, is) = subst (Aims was.kind aim) is aims
     only g (suc k, lt, is) = absurd (omega (arith, lt))
 
 -- one call more
 pub ran_call : {T : Type 0} (was it new : Working) (aim : Option (List Transaction)) (result : Result T EngineFault) (next : EngineState) (start a b : Disk)
     → Ran was it aim start a → IsSame it.kind new.kind it.reading new.reading → Turns it.kind it.reading result next it.state new.state new.holds a b
-    → ((g : Gist) → Contains (it.state.kept ++ next.kept) g → Aims was.kind.name aim g) → Ran was new aim start b
+    → ((g : Gist) → Contains (it.state.kept ++ next.kept) g → Aims was.kind aim g) → Ran was new aim start b
 ran_call was it new aim result next start a b ran same turns all = record {
   same = record { kind = same.kind ∙ ran.same.kind; reading = same_reading was.reading it.reading new.reading ran.same.reading same.reading };
   told = turns.cause.told ∙ ran.told;
@@ -67,7 +66,7 @@ ran_call was it new aim result next start a b ran same turns all = record {
 }
   where
     P : (ℕ → File) → Type 0
-    P files = OnlyIn was.kind.files (now start) (EachAims was.kind.name aim was.reading) files
+    P files = OnlyIn was.kind.files (now start) (EachAims was.kind aim was.reading) files
 
     numbers : it.kind.files ≡ was.kind.files
     numbers = ap (λ (k : Kind). k.files) ran.same.kind
@@ -75,8 +74,8 @@ ran_call was it new aim result next start a b ran same turns all = record {
     at_each : IsTrue start.told → (files : ℕ → File) → OnlyIn it.kind.files (now a) (EachReads it.reading (it.state.kept ++ next.kept)) files → P files
     at_each told files only = (
       (λ f not. only.0 f (λ here. not (subst (λ ks. Contains ks f) numbers here)) ∙ ((ran.moments told).each a.calls ran.later (omega arith)).0 f not),
-      subst (λ ks. EachAims was.kind.name aim was.reading (map files ks)) numbers
-          (each_aims was.kind.name aim was.reading it.reading (it.state.kept ++ next.kept) (map files it.kind.files) ran.same.reading all only.1),
+      subst (λ ks. EachAims was.kind aim was.reading (map files ks)) numbers
+          (each_aims was.kind aim was.reading it.reading (it.state.kept ++ next.kept) (map files it.kind.files) ran.same.reading all only.1),
     )
 
 -- one run after another
@@ -86,22 +85,22 @@ ran_both was it new aim start a b first second = record {
   told = second.told ∙ first.told;
   later = omega (arith, first.later, second.later);
   no_fewer = omega (arith, first.no_fewer, second.no_fewer);
-  moments = λ told. both start a b P (first.moments told) (weaker a b (OnlyIn it.kind.files (now a) (EachAims it.kind.name aim it.reading)) P (at_each told) (second.moments (subst IsTrue (sym first.told) told)));
+  moments = λ told. both start a b P (first.moments told) (weaker a b (OnlyIn it.kind.files (now a) (EachAims it.kind aim it.reading)) P (at_each told) (second.moments (subst IsTrue (sym first.told) told)));
 }
   where
     P : (ℕ → File) → Type 0
-    P files = OnlyIn was.kind.files (now start) (EachAims was.kind.name aim was.reading) files
+    P files = OnlyIn was.kind.files (now start) (EachAims was.kind aim was.reading) files
 
-    aims_as : (aim : Option (List Transaction)) (files : List File) → EachAims it.kind.name aim it.reading files → EachAims was.kind.name aim was.reading files
+    aims_as : (aim : Option (List Transaction)) (files : List File) → EachAims it.kind aim it.reading files → EachAims was.kind aim was.reading files
     aims_as None files h = tt
     aims_as (Some log) files h = λ images faithful.
         let at = h images (faithful_as was.reading it.reading 0 files images first.same.reading faithful) in
-        (at.0, subst (λ (k : Kind). Trails k.name log at.0) first.same.kind at.1, first.same.reading.stands images at.0 at.2)
+        (at.0, subst (λ (k : Kind). GoesWith k log at.0) first.same.kind at.1, first.same.reading.stands images at.0 at.2)
 
-    at_each : IsTrue start.told → (files : ℕ → File) → OnlyIn it.kind.files (now a) (EachAims it.kind.name aim it.reading) files → P files
+    at_each : IsTrue start.told → (files : ℕ → File) → OnlyIn it.kind.files (now a) (EachAims it.kind aim it.reading) files → P files
     at_each told files only = (
       (λ f not. only.0 f (λ here. not (subst (λ (k : Kind). Contains k.files f) first.same.kind here)) ∙ ((first.moments told).each a.calls first.later (omega arith)).0 f not),
-      subst (λ (k : Kind). EachAims was.kind.name aim was.reading (map files k.files)) first.same.kind (aims_as aim (map files it.kind.files) only.1),
+      subst (λ (k : Kind). EachAims was.kind aim was.reading (map files k.files)) first.same.kind (aims_as aim (map files it.kind.files) only.1),
     )
 
 -- After a call that answered Ok the engine is between two calls again.
@@ -136,10 +135,10 @@ resolved_still xid number state begun none =
     begun ∙ sym (resolved_begun xid number state begun ∙ ap (λ o. begun_state (resolved o number state.gist)) none)
 
 -- between two calls of which the second ends in this state, an image reads as one of two gists
-pub kept_aims : (e : List ℕ) (aim : Option (List Transaction)) (state next : EngineState) → state ≡ begun_state state.gist → next ≡ begun_state next.gist → Aims e aim state.gist → Aims e aim next.gist
-    → (g : Gist) → Contains (state.kept ++ next.kept) g → Aims e aim g
-kept_aims e aim state next p q at_first after g h =
-    both_aim e aim state.gist next.gist at_first after g
+pub kept_aims : (kind : Kind) (aim : Option (List Transaction)) (state next : EngineState) → state ≡ begun_state state.gist → next ≡ begun_state next.gist → Aims kind aim state.gist → Aims kind aim next.gist
+    → (g : Gist) → Contains (state.kept ++ next.kept) g → Aims kind aim g
+kept_aims kind aim state next p q at_first after g h =
+    both_aim kind aim state.gist next.gist at_first after g
     (subst (λ ks. Contains ks g) (ap (λ (s : EngineState). s.kept ++ next.kept) p ∙ ap (λ (s : EngineState). state.gist ∷ s.kept) q) h)
 
 -- What a failing call says of the device it says of the whole.

@@ -67,21 +67,21 @@ so_far_begins was pairs left d idle has = record {
   without = λ x. refl;
   fewer = omega arith;
   ran = λ aim fits aims. ran_none was aim d idle aims;
-  on_way = λ aim fits aims. on_way_at_first was.kind.name aim was.state.gist aims;
+  on_way = λ aim fits aims. on_way_at_first was.kind aim was.state.gist aims;
 }
 
 -- While the pair at a place has its turn the run goes on.
 pub ran_resolved : {T : Type 0} (was it new : Working) (pairs : List (ℕ × ℕ)) (count : ℕ) (pair d : ℕ × ℕ) (result : Result T EngineFault) (all left : BTreeSet ℕ) (start a b : Disk)
     → SoFar was it pairs count all left start a → count < length pairs → get_or pairs count d ≡ pair
     → IsSame it.kind new.kind it.reading new.reading → Turns it.kind it.reading result (resolved_state pair.0 pair.1 it.state) it.state new.state new.holds a b
-    → (aim : Option (List Transaction)) → Fits aim pairs → Aims was.kind.name aim was.state.gist → Ran was new aim start b
+    → (aim : Option (List Transaction)) → Fits aim pairs → Aims was.kind aim was.state.gist → Ran was new aim start b
 ran_resolved was it new pairs count pair d result all left start a b far lt is same turns aim fits aims =
     ran_call was it new aim result (resolved_state pair.0 pair.1 it.state) start a b (far.ran aim fits aims) same turns
-    (kept_aims was.kind.name aim it.state (resolved_state pair.0 pair.1 it.state) far.idle.begun (resolved_begun pair.0 pair.1 it.state far.idle.begun)
-    (aims_on_way was.kind.name aim count it.state.gist way)
-    (aims_on_way was.kind.name aim (suc count) (resolved_state pair.0 pair.1 it.state).gist (on_way-resolved was.kind.name aim pairs count pair d it.state fits lt is way)))
+    (kept_aims was.kind aim it.state (resolved_state pair.0 pair.1 it.state) far.idle.begun (resolved_begun pair.0 pair.1 it.state far.idle.begun)
+    (aims_on_way was.kind aim count it.state.gist way)
+    (aims_on_way was.kind aim (suc count) (resolved_state pair.0 pair.1 it.state).gist (on_way-resolved was.kind aim pairs count pair d it.state fits lt is way)))
   where
-    way : IsOnWay was.kind.name aim count it.state.gist
+    way : IsOnWay was.kind aim count it.state.gist
     way = far.on_way aim fits aims
 
 -- One pair more is decided.
@@ -98,8 +98,8 @@ so_far_next was it new pairs count pair d value all left rest start a b far lt i
       fewer = omega (arith, fewer, far.fewer);
       ran = ran_resolved was it new pairs count pair d (Ok value) all left start a b far lt is same turns;
       on_way = λ aim fits aims.
-          subst (λ k. IsOnWay was.kind.name aim k new.state.gist) one
-          (subst (λ (s : EngineState). IsOnWay was.kind.name aim (suc count) s.gist) (sym turns.ok) (on_way-resolved was.kind.name aim pairs count pair d it.state fits lt is (far.on_way aim fits aims)));
+          subst (λ k. IsOnWay was.kind aim k new.state.gist) one
+          (subst (λ (s : EngineState). IsOnWay was.kind aim (suc count) s.gist) (sym turns.ok) (on_way-resolved was.kind aim pairs count pair d it.state fits lt is (far.on_way aim fits aims)));
     }
 
 -- rollbacks
@@ -108,7 +108,7 @@ pub rolling_begins : (was : Working) (left : BTreeSet ℕ) (d : Disk) → IsIdle
 rolling_begins was left d idle has = record {
   idle = idle;
   prepared = has;
-  ran = λ aim place end way. ran_none was aim d idle (aims_on_way was.kind.name aim place was.state.gist way);
+  ran = λ aim place end way. ran_none was aim d idle (aims_on_way was.kind aim place was.state.gist way);
   on_way = λ aim place end way. way;
 }
 
@@ -116,14 +116,14 @@ rolling_begins was left d idle has = record {
 pub ran_dropped : {T : Type 0} (was it new : Working) (xid : ℕ) (result : Result T EngineFault) (left : BTreeSet ℕ) (start a b : Disk)
     → RollingBack was it left start a → contains nat_cmp left xid ≡ true
     → IsSame it.kind new.kind it.reading new.reading → Turns it.kind it.reading result (dropped_state xid it.state) it.state new.state new.holds a b
-    → (aim : Option (List Transaction)) (place : ℕ) → IsEnd aim place → IsOnWay was.kind.name aim place was.state.gist → Ran was new aim start b
+    → (aim : Option (List Transaction)) (place : ℕ) → IsEnd aim place → IsOnWay was.kind aim place was.state.gist → Ran was new aim start b
 ran_dropped was it new xid result left start a b far is same turns aim place end begun =
     ran_call was it new aim result (dropped_state xid it.state) start a b (far.ran aim place end begun) same turns
-    (kept_aims was.kind.name aim it.state (dropped_state xid it.state) far.idle.begun (dropped_begun xid it.state far.idle.begun)
-    (aims_on_way was.kind.name aim place it.state.gist way)
-    (aims_on_way was.kind.name aim place (dropped_state xid it.state).gist (on_way-dropped was.kind.name aim place xid it.state end (sym (far.prepared xid) ∙ is) way)))
+    (kept_aims was.kind aim it.state (dropped_state xid it.state) far.idle.begun (dropped_begun xid it.state far.idle.begun)
+    (aims_on_way was.kind aim place it.state.gist way)
+    (aims_on_way was.kind aim place (dropped_state xid it.state).gist (on_way-dropped was.kind aim place xid it.state end (sym (far.prepared xid) ∙ is) way)))
   where
-    way : IsOnWay was.kind.name aim place it.state.gist
+    way : IsOnWay was.kind aim place it.state.gist
     way = far.on_way aim place end begun
 
 -- One xid more is rolled back.
@@ -136,6 +136,6 @@ rolling_next was it new xid value left rest start a b far is same turns without 
   prepared = subst (λ (s : EngineState). HasPrepared rest s.gist) (sym turns.ok) (HasPrepared-dropped left rest xid it.state far.prepared without);
   ran = ran_dropped was it new xid (Ok value) left start a b far is same turns;
   on_way = λ aim place end begun.
-      subst (λ (s : EngineState). IsOnWay was.kind.name aim place s.gist) (sym turns.ok)
-      (on_way-dropped was.kind.name aim place xid it.state end (sym (far.prepared xid) ∙ is) (far.on_way aim place end begun));
+      subst (λ (s : EngineState). IsOnWay was.kind aim place s.gist) (sym turns.ok)
+      (on_way-dropped was.kind aim place xid it.state end (sym (far.prepared xid) ∙ is) (far.on_way aim place end begun));
 }

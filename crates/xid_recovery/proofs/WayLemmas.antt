@@ -1,10 +1,11 @@
 -- How a gist goes on its way to a log when an xid is decided.
 use Rattle.std.proofs.Common.{◌≡◌, ◌⊎◌, inl, inr, ℕ, zero, suc, ◌<◌, ◌≤◌, List, [], ◌∷◌, Option, Some, None, Bool, true, false, cond, refl, sym, ap, subst, ◌∙◌, arith, length, get_or}
-use Rattle.std.specs.Prelude.{◌≢◌, ◌==◌, ◌&&◌, not, Contains, is_some, nat_lt, slice_get}
+use Rattle.std.specs.Prelude.{◌≢◌, ◌==◌, ◌&&◌, not, Contains, All, is_some, nat_lt, slice_get}
 use Rattle.std.specs.List.{list_any}
 use Rattle.std.specs.BTreeSet.{BTreeSet}
 use Rattle.std.proofs.lemmas.Bool.Decides.{eqb_tells}
 use Rattle.std.proofs.lemmas.Option.{slice_get_within}
+use Rattle.std.proofs.lemmas.List.Elements.{All-filter}
 use Rattle.row_format.specs.declared.change.Transaction.{Transaction}
 use Rattle.log_tables.specs.declared.gist.Prepared.{Prepared}
 use Rattle.log_tables.specs.declared.gist.Gist.{Gist}
@@ -13,9 +14,10 @@ use Rattle.log_tables.specs.Gists.{prepared_with, is_prepared, without_xid, afte
 use Rattle.log_tables.proofs.PartLemmas.{cond_true, cond_false}
 use Rattle.recovery_rules.specs.Places.{IsDistinct, IsNew, share_at}
 use Rattle.recovery_rules.specs.Trails.{Trails, NonePrepared}
+use Rattle.recovery_rules.specs.Recovery.{Suits}
 use Rattle.recovery_rules.proofs.TrailsLemmas.{left_over, Trails-after_commit, Trails-after_rollback, next-first, next-applies}
-use Rattle.engine_api.specs.States.{EngineState, begun_state, resolved, resolved_state, dropped_state}
-use Rattle.engine_api.specs.Live.{IsLeft, has_under}
+use Rattle.engine_api.specs.States.{Kind, EngineState, begun_state, resolved, resolved_state, dropped_state}
+use Rattle.engine_api.specs.Live.{allows, IsLeft, has_under}
 use Rattle.xid_recovery.specs.Pairs.{has}
 use Rattle.xid_recovery.specs.Running.{Fits, Aims, IsEnd, IsOnWay, HasPrepared, IsWithout}
 use Rattle.xid_recovery.proofs.XidLemmas.{is_prepared-without}
@@ -164,23 +166,37 @@ read_pair [] k pair d e = absurd (none_some e)
 read_pair (p ∷ pairs) zero pair d e = same_some e
 read_pair (p ∷ pairs) (suc k) pair d e = read_pair pairs k pair d e
 
+-- Of what is prepared none comes newly when an xid is decided.
+suits_resolved : (P : Prepared → Type 0) (o : Option Prepared) (number : ℕ) (gist : Gist) → All P gist.prepared → All P (resolved o number gist).prepared
+suits_resolved P None number gist h = h
+suits_resolved P (Some p) number gist h = both (nat_lt gist.last number && all_apply p.changes gist.tables)
+  where
+    both : (b : Bool) → All P (cond b (after_commit p number gist) (after_rollback p.xid gist)).prepared
+    both true = All-filter (λ it. not (it.xid == p.xid)) P gist.prepared h
+    both false = All-filter (λ it. not (it.xid == p.xid)) P gist.prepared h
+
 -- The pair at a place has its turn.
-pub on_way-resolved : (e : List ℕ) (aim : Option (List Transaction)) (pairs : List (ℕ × ℕ)) (k : ℕ) (pair d : ℕ × ℕ) (state : EngineState)
-    → Fits aim pairs → k < length pairs → get_or pairs k d ≡ pair → IsOnWay e aim k state.gist → IsOnWay e aim (suc k) (resolved_state pair.0 pair.1 state).gist
-on_way-resolved e None pairs k pair d state fits lt is way = tt
-on_way-resolved e (Some log) pairs k pair d state fits lt is way =
+pub on_way-resolved : (kind : Kind) (aim : Option (List Transaction)) (pairs : List (ℕ × ℕ)) (k : ℕ) (pair d : ℕ × ℕ) (state : EngineState)
+    → Fits aim pairs → k < length pairs → get_or pairs k d ≡ pair → IsOnWay kind aim k state.gist → IsOnWay kind aim (suc k) (resolved_state pair.0 pair.1 state).gist
+on_way-resolved kind None pairs k pair d state fits lt is way = tt
+on_way-resolved kind (Some log) pairs k pair d state fits lt is way =
     let many = fits.1.as_many in
     let it = at_place log k (omega (arith, lt, many)) in
     let pair_is : (it.0.xid, suc k) ≡ pair = sym (read_pair pairs k (it.0.xid, suc k) d (fits.1.pair k it.0 it.1)) ∙ is in
-    subst (λ (q : ℕ × ℕ). IsOnWay e (Some log) (suc k) (resolved (prepared_with q.0 state.gist.prepared) q.1 state.gist)) pair_is
-    (resolve_found e log state.gist k it.0 (prepared_with it.0.xid state.gist.prepared) fits.0 it.1 way.0 way.1 refl)
+    let found = prepared_with it.0.xid state.gist.prepared in
+    let next = resolve_found kind.name log state.gist k it.0 found fits.0 it.1 way.0.trails way.1 refl in
+    let suits = suits_resolved (λ (p : Prepared). Suits kind.name (allows kind.flags) p.changes) found (suc k) state.gist way.0.suits in
+    subst (λ (q : ℕ × ℕ). IsOnWay kind (Some log) (suc k) (resolved (prepared_with q.0 state.gist.prepared) q.1 state.gist)) pair_is (record { trails = next.0; suits = suits }, next.1)
 
 -- What is prepared behind the end of the log is rolled back.
-pub on_way-dropped : (e : List ℕ) (aim : Option (List Transaction)) (place xid : ℕ) (state : EngineState)
-    → IsEnd aim place → is_prepared xid state.gist.prepared ≡ true → IsOnWay e aim place state.gist → IsOnWay e aim place (dropped_state xid state).gist
-on_way-dropped e None place xid state end is way = tt
-on_way-dropped e (Some log) place xid state end is way = (
-  Trails-after_rollback e log state.gist xid new way.0,
+pub on_way-dropped : (kind : Kind) (aim : Option (List Transaction)) (place xid : ℕ) (state : EngineState)
+    → IsEnd aim place → is_prepared xid state.gist.prepared ≡ true → IsOnWay kind aim place state.gist → IsOnWay kind aim place (dropped_state xid state).gist
+on_way-dropped kind None place xid state end is way = tt
+on_way-dropped kind (Some log) place xid state end is way = (
+  record {
+    trails = Trails-after_rollback kind.name log state.gist xid new way.0.trails;
+    suits = All-filter (λ it. not (it.xid == xid)) (λ (p : Prepared). Suits kind.name (allows kind.flags) p.changes) state.gist.prepared way.0.suits;
+  },
   record { unlike = λ j other p there lt has. way.1.unlike j other p there lt (left_over xid state.gist.prepared p has).0 },
 )
   where
@@ -194,13 +210,13 @@ on_way-dropped e (Some log) place xid state end is way = (
     }
 
 -- on the way is aimed
-pub aims_on_way : (e : List ℕ) (aim : Option (List Transaction)) (place : ℕ) (gist : Gist) → IsOnWay e aim place gist → Aims e aim gist
-aims_on_way e None place gist way = tt
-aims_on_way e (Some log) place gist way = way.0
+pub aims_on_way : (kind : Kind) (aim : Option (List Transaction)) (place : ℕ) (gist : Gist) → IsOnWay kind aim place gist → Aims kind aim gist
+aims_on_way kind None place gist way = tt
+aims_on_way kind (Some log) place gist way = way.0
 
-pub on_way_at_first : (e : List ℕ) (aim : Option (List Transaction)) (gist : Gist) → Aims e aim gist → IsOnWay e aim 0 gist
-on_way_at_first e None gist aims = tt
-on_way_at_first e (Some log) gist aims = (aims, record { unlike = λ j other p there lt has. absurd (omega (arith, lt)) })
+pub on_way_at_first : (kind : Kind) (aim : Option (List Transaction)) (gist : Gist) → Aims kind aim gist → IsOnWay kind aim 0 gist
+on_way_at_first kind None gist aims = tt
+on_way_at_first kind (Some log) gist aims = (aims, record { unlike = λ j other p there lt has. absurd (omega (arith, lt)) })
 
 pub is_end : (aim : Option (List Transaction)) (pairs : List (ℕ × ℕ)) (place : ℕ) → Fits aim pairs → length pairs ≤ place → IsEnd aim place
 is_end None pairs place fits le = tt

@@ -1,12 +1,15 @@
 -- What a recovery of one engine makes of its files. (This project.)
-use Rattle.std.specs.Prelude.{◌≡◌, ◌+◌, ◌≤◌, ◌<◌, ℕ, List, [], ◌∷◌, Result, Ok, Err, OnOk, IsErrOf, IsTrue, Contains}
+use Rattle.std.specs.Prelude.{◌≡◌, ◌+◌, ◌≤◌, ◌<◌, ℕ, List, [], ◌∷◌, Result, Ok, Err, OnOk, IsErrOf, IsTrue, Contains, All}
 use Rattle.disk_model.specs.File.{File}
 use Rattle.disk_model.specs.Disk.{Disk, now, Keeps}
 use Rattle.row_format.specs.declared.change.Transaction.{Transaction}
+use Rattle.log_tables.specs.declared.gist.Prepared.{Prepared}
 use Rattle.log_tables.specs.declared.gist.Gist.{Gist}
 use Rattle.log_tables.specs.Gists.{is_prepared}
 use Rattle.recovery_rules.specs.Trails.{Trails, IsAtLog}
+use Rattle.recovery_rules.specs.Recovery.{Suits}
 use Rattle.engine_api.specs.States.{Kind, EngineState, begun_state}
+use Rattle.engine_api.specs.Live.{allows}
 use Rattle.engine_api.specs.Reads.{Reading, AreFaithful, AreAtStart, EachReads, files_in, bytes_in, OnlyIn}
 use Rattle.engine_api.specs.Many.{Working}
 use Rattle.xid_recovery.specs.declared.report.EngineReport.{EngineReport}
@@ -25,15 +28,19 @@ IsDoneOrOutside (Err Device) = Unit {0}
 IsDoneOrOutside (Err Memory) = Unit {0}
 IsDoneOrOutside (Err _) = ⊥
 
--- each faithful crash image of these files reads as a gist that trails the log
-abbrev pub EachTrails : List ℕ → List Transaction → Reading → List File → Type 0
-EachTrails engine log reading files = (images : List (List ℕ)) → AreFaithful reading 0 files images → (gist : Gist) × Trails engine log gist × reading.stands images gist
+-- the gist goes with the log: it trails it, and the engine's flags allow each table that something prepared makes
+pub record GoesWith (kind : Kind) (log : List Transaction) (gist : Gist) : Type 0 where
+  pub trails : Trails kind.name log gist
+  pub suits : All (λ (p : Prepared). Suits kind.name (allows kind.flags) p.changes) gist.prepared
 
--- By its files the engine is recoverable to the log: each gist that their contents stand for trails it, and where each file has its
--- contents or a faithful crash image, they stand for one that does.
+-- each faithful crash image of these files reads as a gist that goes with the log
+abbrev pub EachGoes : Kind → List Transaction → Reading → List File → Type 0
+EachGoes kind log reading files = (images : List (List ℕ)) → AreFaithful reading 0 files images → (gist : Gist) × GoesWith kind log gist × reading.stands images gist
+
+-- By its files the engine is recoverable to the log: where each of them has its contents or a faithful crash image, they stand for a gist
+-- that goes with it.
 pub record IsRecoverableIn (kind : Kind) (reading : Reading) (log : List Transaction) (disk : Disk) : Type 0 where
-  pub contents : (gist : Gist) → reading.stands (bytes_in kind.files disk) gist → Trails kind.name log gist
-  pub images : (images : List (List ℕ)) → AreAtStart reading 0 (files_in kind.files disk) images → (gist : Gist) × Trails kind.name log gist × reading.stands images gist
+  pub images : (images : List (List ℕ)) → AreAtStart reading 0 (files_in kind.files disk) images → (gist : Gist) × GoesWith kind log gist × reading.stands images gist
 
 -- The engine is between two calls: nothing is pending in it, its files are what it takes them for, and each faithful crash image of them
 -- reads as its gist.
@@ -44,8 +51,8 @@ pub record IsIdle (it : Working) (disk : Disk) : Type 0 where
 -- From files that are recoverable to the log: at each moment they are, all other files are as they were, and after Ok the engine is at
 -- the log. It is done, or the device failed, or there was no memory.
 pub record Recovers (kind : Kind) (reading : Reading) (log : List Transaction) (result : Result EngineReport OpenFault) (new : EngineState) (before after : Disk) : Type 0 where
-  pub moments : Keeps before after (OnlyIn kind.files (now before) (EachTrails kind.name log reading))
-  pub trails : OnOk result (Trails kind.name log new.gist)
+  pub moments : Keeps before after (OnlyIn kind.files (now before) (EachGoes kind log reading))
+  pub goes : OnOk result (GoesWith kind log new.gist)
   pub at_log : OnOk result (IsAtLog kind.name log new.gist)
   pub answers : IsDoneOrOutside result
 

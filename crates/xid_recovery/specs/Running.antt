@@ -8,39 +8,44 @@ use Rattle.row_format.specs.declared.change.Transaction.{Transaction}
 use Rattle.log_tables.specs.declared.gist.Gist.{Gist}
 use Rattle.log_tables.specs.Gists.{is_prepared}
 use Rattle.recovery_rules.specs.Places.{IsDistinct}
-use Rattle.recovery_rules.specs.Trails.{Trails, NonePrepared}
+use Rattle.recovery_rules.specs.Trails.{NonePrepared}
+use Rattle.engine_api.specs.States.{Kind}
 use Rattle.engine_api.specs.Reads.{Reading, OnlyIn}
 use Rattle.engine_api.specs.Calls.{IsSame}
 use Rattle.engine_api.specs.Many.{Working}
 use Rattle.xid_recovery.specs.declared.report.OpenFault.{OpenFault}
 use Rattle.xid_recovery.specs.declared.report.OpenFault.TheVariants.{Ahead, Memory}
 use Rattle.xid_recovery.specs.Pairs.{ArePairsOf, xids_in, has}
-use Rattle.xid_recovery.specs.Recovers.{EachTrails, IsIdle}
+use Rattle.xid_recovery.specs.Recovers.{GoesWith, EachGoes, IsIdle}
+
+-- images stand for one gist at most
+pub record StandForOne (reading : Reading) : Type 0 where
+  pub one : (images : List (List ℕ)) (a b : Gist) → reading.stands images a → reading.stands images b → a ≡ b
 
 -- where a log is aimed at, the pairs are its own and its xids all differ
 abbrev pub Fits : Option (List Transaction) → List (ℕ × ℕ) → Type 0
 Fits None pairs = Unit {0}
 Fits (Some log) pairs = IsDistinct log × ArePairsOf log pairs
 
--- where a log is aimed at, the gist trails it
-abbrev pub Aims : List ℕ → Option (List Transaction) → Gist → Type 0
-Aims engine None gist = Unit {0}
-Aims engine (Some log) gist = Trails engine log gist
+-- where a log is aimed at, the gist goes with it
+abbrev pub Aims : Kind → Option (List Transaction) → Gist → Type 0
+Aims kind None gist = Unit {0}
+Aims kind (Some log) gist = GoesWith kind log gist
 
 -- where a log is aimed at, the place is its end
 abbrev pub IsEnd : Option (List Transaction) → ℕ → Type 0
 IsEnd None place = Unit {0}
 IsEnd (Some log) place = length log ≤ place
 
--- where a log is aimed at, the gist trails it, and nothing is prepared that it has before this place
-abbrev pub IsOnWay : List ℕ → Option (List Transaction) → ℕ → Gist → Type 0
-IsOnWay engine None place gist = Unit {0}
-IsOnWay engine (Some log) place gist = Trails engine log gist × NonePrepared log gist place
+-- where a log is aimed at, the gist goes with it, and nothing is prepared that it has before this place
+abbrev pub IsOnWay : Kind → Option (List Transaction) → ℕ → Gist → Type 0
+IsOnWay kind None place gist = Unit {0}
+IsOnWay kind (Some log) place gist = GoesWith kind log gist × NonePrepared log gist place
 
--- where a log is aimed at, each faithful crash image of these files reads as a gist that trails it
-abbrev pub EachAims : List ℕ → Option (List Transaction) → Reading → List File → Type 0
-EachAims engine None reading files = Unit {0}
-EachAims engine (Some log) reading files = EachTrails engine log reading files
+-- where a log is aimed at, each faithful crash image of these files reads as a gist that goes with it
+abbrev pub EachAims : Kind → Option (List Transaction) → Reading → List File → Type 0
+EachAims kind None reading files = Unit {0}
+EachAims kind (Some log) reading files = EachGoes kind log reading files
 
 -- calls of the engine ran from one disk to another: it is the same engine, the counts go on, and at each moment all other files are as they
 -- were and its own read as is aimed at
@@ -49,7 +54,7 @@ pub record Ran (was it : Working) (aim : Option (List Transaction)) (start end :
   pub told : end.told ≡ start.told
   pub later : start.calls ≤ end.calls
   pub no_fewer : start.faults ≤ end.faults
-  pub moments : IsTrue start.told → Keeps start end (OnlyIn was.kind.files (now start) (EachAims was.kind.name aim was.reading))
+  pub moments : IsTrue start.told → Keeps start end (OnlyIn was.kind.files (now start) (EachAims was.kind aim was.reading))
 
 -- the set has the xids that are prepared
 abbrev pub HasPrepared : BTreeSet ℕ → Gist → Type 0
@@ -69,15 +74,15 @@ pub record SoFar (was it : Working) (pairs : List (ℕ × ℕ)) (count : ℕ) (a
   pub prepared : HasPrepared left it.state.gist
   pub without : IsWithoutAll (take count pairs) all left
   pub fewer : length left.keys ≤ length all.keys
-  pub ran : (aim : Option (List Transaction)) → Fits aim pairs → Aims was.kind.name aim was.state.gist → Ran was it aim start end
-  pub on_way : (aim : Option (List Transaction)) → Fits aim pairs → Aims was.kind.name aim was.state.gist → IsOnWay was.kind.name aim count it.state.gist
+  pub ran : (aim : Option (List Transaction)) → Fits aim pairs → Aims was.kind aim was.state.gist → Ran was it aim start end
+  pub on_way : (aim : Option (List Transaction)) → Fits aim pairs → Aims was.kind aim was.state.gist → IsOnWay was.kind aim count it.state.gist
 
 -- some of what was left is rolled back
 pub record RollingBack (was it : Working) (left : BTreeSet ℕ) (start end : Disk) : Type 0 where
   pub idle : IsIdle it end
   pub prepared : HasPrepared left it.state.gist
-  pub ran : (aim : Option (List Transaction)) (place : ℕ) → IsEnd aim place → IsOnWay was.kind.name aim place was.state.gist → Ran was it aim start end
-  pub on_way : (aim : Option (List Transaction)) (place : ℕ) → IsEnd aim place → IsOnWay was.kind.name aim place was.state.gist → IsOnWay was.kind.name aim place it.state.gist
+  pub ran : (aim : Option (List Transaction)) (place : ℕ) → IsEnd aim place → IsOnWay was.kind aim place was.state.gist → Ran was it aim start end
+  pub on_way : (aim : Option (List Transaction)) (place : ℕ) → IsEnd aim place → IsOnWay was.kind aim place was.state.gist → IsOnWay was.kind aim place it.state.gist
 
 -- that the last number of this engine exceeds the log's, or that there was no memory
 abbrev pub Tells : List ℕ → ℕ → ℕ → OpenFault → Type 0

@@ -6,6 +6,7 @@ ghost use Rattle.engine_api.specs.States.{begun_state, resolved_state, dropped_s
 ghost use Rattle.engine_api.specs.Live.{IsLeft};
 ghost use Rattle.engine_api.specs.Reads.{EachReads, EachReadsAs, files_in, bytes_in, OnlyIn};
 ghost use Rattle.engine_api.specs.Calls.{IsDevice, IsSame, Turns, AnswersOnly};
+ghost use Rattle.xid_recovery.specs.Running.{StandForOne};
 ghost use Rattle.engine_api.specs.declared.fault.Code.{Code};
 ghost use Rattle.engine_api.specs.declared.fault.EngineFault.TheVariants.{Code as code, NotAVolume};
 
@@ -31,6 +32,7 @@ pub(crate) fn begin(
         → Keeps (disk volume.old) (disk volume.new)
         (OnlyIn (kind engine.old).files (now (disk volume.old))
         (EachReadsAs (reading engine.old) (files_in (kind engine.old).files (disk volume.old)))) }
+    ensures one_gist { StandForOne (reading engine.old) }
     ensures not_a_volume { (file : ℕ) → result ≡ Err (NotAVolume file)
         → Contains (kind engine.old).files file
         × (IsTrue (disk volume.old).told → (gist : Gist) → (reading engine.old).stands

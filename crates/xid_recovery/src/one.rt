@@ -51,14 +51,14 @@ fn bring(
         (working (kind engine.old) (reading engine.old) (state engine.old) (holds engine.old))
         (disk volume.old) }
     ensures ran { (aim : Option (List Transaction)) → Fits aim xids.now
-        → Aims (kind engine.old).name aim (state engine.old).gist
+        → Aims (kind engine.old) aim (state engine.old).gist
         → Ran
         (working (kind engine.old) (reading engine.old) (state engine.old) (holds engine.old))
         (working (kind engine.new) (reading engine.new) (state engine.new) (holds engine.new))
         aim (disk volume.old) (disk volume.new) }
     ensures aims { (aim : Option (List Transaction)) → Fits aim xids.now
-        → Aims (kind engine.old).name aim (state engine.old).gist
-        → OnOk result (Aims (kind engine.old).name aim (state engine.new).gist) }
+        → Aims (kind engine.old) aim (state engine.old).gist
+        → OnOk result (Aims (kind engine.old) aim (state engine.new).gist) }
     ensures brought { OnOk result (IsBrought
         (working (kind engine.new) (reading engine.new) (state engine.new) (holds engine.new))
         (disk volume.new)) }

@@ -69,7 +69,7 @@ pub(crate) fn commit_logged(
         (disk volume.old) }
     requires prepared { HasPrepared left.old (state engine.old).gist }
     ensures ran { (aim : Option (List Transaction)) → Fits aim xids.now
-        → Aims (kind engine.old).name aim (state engine.old).gist
+        → Aims (kind engine.old) aim (state engine.old).gist
         → Ran
         (working (kind engine.old) (reading engine.old) (state engine.old) (holds engine.old))
         (working (kind engine.new) (reading engine.new) (state engine.new) (holds engine.new))
@@ -98,7 +98,7 @@ pub(crate) fn roll_back_rest(
         (disk volume.old) }
     requires prepared { HasPrepared left.old (state engine.old).gist }
     ensures ran { (aim : Option (List Transaction)) (place : ℕ) → IsEnd aim place
-        → IsOnWay (kind engine.old).name aim place (state engine.old).gist
+        → IsOnWay (kind engine.old) aim place (state engine.old).gist
         → Ran
         (working (kind engine.old) (reading engine.old) (state engine.old) (holds engine.old))
         (working (kind engine.new) (reading engine.new) (state engine.new) (holds engine.new))

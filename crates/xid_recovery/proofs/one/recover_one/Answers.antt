@@ -1,10 +1,10 @@
-use Rattle.std.proofs.Common.{Err, refl, ◌∙◌, subst, None, Some}
+use Rattle.std.proofs.Common.{arith, Err, refl, ap, ◌∙◌, subst, None, Some}
 use Rattle.disk_model.specs.Object.{object}
 use Rattle.engine_api.specs.States.{Kind}
-use Rattle.recovery_rules.specs.Trails.{Trails}
+use Rattle.xid_recovery.specs.Recovers.{GoesWith}
 use Rattle.xid_recovery.specs.Running.{Fits}
 use Rattle.xid_recovery.proofs.RunLemmas.{ran_both}
-use Rattle.xid_recovery.proofs.OneLemmas.{begun_idle, ran_begun, trails_begun, others, recovers_err, recovers_ok, begins_outside, calls_outside, tells_call, none_behind, no_code_behind, outside_as}
+use Rattle.xid_recovery.proofs.OneLemmas.{begun_idle, ran_begun, goes_begun, recovers_ahead, others, recovers_err, recovers_ok, begins_outside, calls_outside, tells_call, none_behind, no_code_behind, outside_as}
 use Rattle.xid_recovery.proofs.one.recover_one.Goals as goal
 
 pub returns-in-Err-clause-recovers : goal.returns-in-Err-clause-recovers
@@ -14,6 +14,12 @@ returns-in-Err-clause-recovers g c = λ log distinct pairs is told from.
 
 pub returns-in-Err-clause-others : goal.returns-in-Err-clause-others
 returns-in-Err-clause-others g c = others (let e = goal.Engine-dyn g (object c.args.engine.now) in record { kind = e.kind c.args.engine.now.value; reading = e.reading c.args.engine.now.value; state = e.state c.args.engine.now.value; holds = e.holds c.args.engine.now.value }) (let e = goal.Engine-dyn g (object c.begin.new.engine) in record { kind = e.kind c.begin.new.engine.value; reading = e.reading c.begin.new.engine.value; state = e.state c.begin.new.engine.value; holds = e.holds c.begin.new.engine.value }) _ _ (ran_begun (let e = goal.Engine-dyn g (object c.args.engine.now) in record { kind = e.kind c.args.engine.now.value; reading = e.reading c.args.engine.now.value; state = e.state c.args.engine.now.value; holds = e.holds c.args.engine.now.value }) (let e = goal.Engine-dyn g (object c.begin.new.engine) in record { kind = e.kind c.begin.new.engine.value; reading = e.reading c.begin.new.engine.value; state = e.state c.begin.new.engine.value; holds = e.holds c.begin.new.engine.value }) _ _ _ c.in-Err.ensures.same c.in-Err.ensures.device c.in-Err.ensures.any_moment None tt)
+
+pub returns-then-last_number-logged-clause-recovers : goal.returns-then-last_number-logged-clause-recovers
+returns-then-last_number-logged-clause-recovers g c = λ log distinct pairs is told from.
+    let last = c.last_number.ensures ∙ ap (λ o. ((goal.Engine-dyn g o).state o.1).gist.last) c.deref_box-1.ensures.1 in
+    let past = c.if-last_number-logged.true in
+    recovers_ahead (let e = goal.Engine-dyn g (object c.args.engine.now) in record { kind = e.kind c.args.engine.now.value; reading = e.reading c.args.engine.now.value; state = e.state c.args.engine.now.value; holds = e.holds c.args.engine.now.value }) (let e = goal.Engine-dyn g (object c.begin.new.engine) in record { kind = e.kind c.begin.new.engine.value; reading = e.reading c.begin.new.engine.value; state = e.state c.begin.new.engine.value; holds = e.holds c.begin.new.engine.value }) log c.args.logged _ _ _ c.in_default.ensures.one_gist c.in_default.ensures.gist (omega (arith, last, past)) is told from
 
 pub returns-then-last_number-logged-clause-others : goal.returns-then-last_number-logged-clause-others
 returns-then-last_number-logged-clause-others g c = others (let e = goal.Engine-dyn g (object c.args.engine.now) in record { kind = e.kind c.args.engine.now.value; reading = e.reading c.args.engine.now.value; state = e.state c.args.engine.now.value; holds = e.holds c.args.engine.now.value }) (let e = goal.Engine-dyn g (object c.begin.new.engine) in record { kind = e.kind c.begin.new.engine.value; reading = e.reading c.begin.new.engine.value; state = e.state c.begin.new.engine.value; holds = e.holds c.begin.new.engine.value }) _ _ (ran_begun (let e = goal.Engine-dyn g (object c.args.engine.now) in record { kind = e.kind c.args.engine.now.value; reading = e.reading c.args.engine.now.value; state = e.state c.args.engine.now.value; holds = e.holds c.args.engine.now.value }) (let e = goal.Engine-dyn g (object c.begin.new.engine) in record { kind = e.kind c.begin.new.engine.value; reading = e.reading c.begin.new.engine.value; state = e.state c.begin.new.engine.value; holds = e.holds c.begin.new.engine.value }) _ _ _ c.in_default.ensures.same c.in_default.ensures.device c.in_default.ensures.any_moment None tt)
@@ -30,8 +36,8 @@ returns-in-Ok-clause-same g c = (ran_both (let e = goal.Engine-dyn g (object c.a
 pub returns-in-Ok-clause-recovers : goal.returns-in-Ok-clause-recovers
 returns-in-Ok-clause-recovers g c = λ log distinct pairs is told from.
     let fits : Fits (Some log) c.args.xids.now = (distinct, pairs) in
-    recovers_ok (let e = goal.Engine-dyn g (object c.args.engine.now) in record { kind = e.kind c.args.engine.now.value; reading = e.reading c.args.engine.now.value; state = e.state c.args.engine.now.value; holds = e.holds c.args.engine.now.value }) (let e = goal.Engine-dyn g (object c.bring.new.engine) in record { kind = e.kind c.bring.new.engine.value; reading = e.reading c.bring.new.engine.value; state = e.state c.bring.new.engine.value; holds = e.holds c.bring.new.engine.value }) log c.in-Ok.report _ _ (ran_both (let e = goal.Engine-dyn g (object c.args.engine.now) in record { kind = e.kind c.args.engine.now.value; reading = e.reading c.args.engine.now.value; state = e.state c.args.engine.now.value; holds = e.holds c.args.engine.now.value }) (let e = goal.Engine-dyn g (object c.begin.new.engine) in record { kind = e.kind c.begin.new.engine.value; reading = e.reading c.begin.new.engine.value; state = e.state c.begin.new.engine.value; holds = e.holds c.begin.new.engine.value }) (let e = goal.Engine-dyn g (object c.bring.new.engine) in record { kind = e.kind c.bring.new.engine.value; reading = e.reading c.bring.new.engine.value; state = e.state c.bring.new.engine.value; holds = e.holds c.bring.new.engine.value }) (Some log) _ _ _ (ran_begun (let e = goal.Engine-dyn g (object c.args.engine.now) in record { kind = e.kind c.args.engine.now.value; reading = e.reading c.args.engine.now.value; state = e.state c.args.engine.now.value; holds = e.holds c.args.engine.now.value }) (let e = goal.Engine-dyn g (object c.begin.new.engine) in record { kind = e.kind c.begin.new.engine.value; reading = e.reading c.begin.new.engine.value; state = e.state c.begin.new.engine.value; holds = e.holds c.begin.new.engine.value }) _ _ _ c.in_default.ensures.same c.in_default.ensures.device c.in_default.ensures.any_moment (Some log) from) (c.in-Ok.ensures.ran (Some log) fits (trails_begun (let e = goal.Engine-dyn g (object c.args.engine.now) in record { kind = e.kind c.args.engine.now.value; reading = e.reading c.args.engine.now.value; state = e.state c.args.engine.now.value; holds = e.holds c.args.engine.now.value }) (let e = goal.Engine-dyn g (object c.begin.new.engine) in record { kind = e.kind c.begin.new.engine.value; reading = e.reading c.begin.new.engine.value; state = e.state c.begin.new.engine.value; holds = e.holds c.begin.new.engine.value }) log _ c.in_default.ensures.same from (c.in_default.ensures.gist told)))) told
-    (subst (λ (k : Kind). Trails k.name log ((goal.Engine-dyn g (object c.bring.new.engine)).state c.bring.new.engine.value).gist) c.in_default.ensures.same.kind (c.in-Ok.ensures.aims (Some log) fits (trails_begun (let e = goal.Engine-dyn g (object c.args.engine.now) in record { kind = e.kind c.args.engine.now.value; reading = e.reading c.args.engine.now.value; state = e.state c.args.engine.now.value; holds = e.holds c.args.engine.now.value }) (let e = goal.Engine-dyn g (object c.begin.new.engine) in record { kind = e.kind c.begin.new.engine.value; reading = e.reading c.begin.new.engine.value; state = e.state c.begin.new.engine.value; holds = e.holds c.begin.new.engine.value }) log _ c.in_default.ensures.same from (c.in_default.ensures.gist told))))
+    recovers_ok (let e = goal.Engine-dyn g (object c.args.engine.now) in record { kind = e.kind c.args.engine.now.value; reading = e.reading c.args.engine.now.value; state = e.state c.args.engine.now.value; holds = e.holds c.args.engine.now.value }) (let e = goal.Engine-dyn g (object c.bring.new.engine) in record { kind = e.kind c.bring.new.engine.value; reading = e.reading c.bring.new.engine.value; state = e.state c.bring.new.engine.value; holds = e.holds c.bring.new.engine.value }) log c.in-Ok.report _ _ (ran_both (let e = goal.Engine-dyn g (object c.args.engine.now) in record { kind = e.kind c.args.engine.now.value; reading = e.reading c.args.engine.now.value; state = e.state c.args.engine.now.value; holds = e.holds c.args.engine.now.value }) (let e = goal.Engine-dyn g (object c.begin.new.engine) in record { kind = e.kind c.begin.new.engine.value; reading = e.reading c.begin.new.engine.value; state = e.state c.begin.new.engine.value; holds = e.holds c.begin.new.engine.value }) (let e = goal.Engine-dyn g (object c.bring.new.engine) in record { kind = e.kind c.bring.new.engine.value; reading = e.reading c.bring.new.engine.value; state = e.state c.bring.new.engine.value; holds = e.holds c.bring.new.engine.value }) (Some log) _ _ _ (ran_begun (let e = goal.Engine-dyn g (object c.args.engine.now) in record { kind = e.kind c.args.engine.now.value; reading = e.reading c.args.engine.now.value; state = e.state c.args.engine.now.value; holds = e.holds c.args.engine.now.value }) (let e = goal.Engine-dyn g (object c.begin.new.engine) in record { kind = e.kind c.begin.new.engine.value; reading = e.reading c.begin.new.engine.value; state = e.state c.begin.new.engine.value; holds = e.holds c.begin.new.engine.value }) _ _ _ c.in_default.ensures.same c.in_default.ensures.device c.in_default.ensures.any_moment (Some log) from) (c.in-Ok.ensures.ran (Some log) fits (goes_begun (let e = goal.Engine-dyn g (object c.args.engine.now) in record { kind = e.kind c.args.engine.now.value; reading = e.reading c.args.engine.now.value; state = e.state c.args.engine.now.value; holds = e.holds c.args.engine.now.value }) (let e = goal.Engine-dyn g (object c.begin.new.engine) in record { kind = e.kind c.begin.new.engine.value; reading = e.reading c.begin.new.engine.value; state = e.state c.begin.new.engine.value; holds = e.holds c.begin.new.engine.value }) log _ c.in_default.ensures.same c.in_default.ensures.one_gist from (c.in_default.ensures.gist told)))) told
+    (subst (λ (k : Kind). GoesWith k log ((goal.Engine-dyn g (object c.bring.new.engine)).state c.bring.new.engine.value).gist) c.in_default.ensures.same.kind (c.in-Ok.ensures.aims (Some log) fits (goes_begun (let e = goal.Engine-dyn g (object c.args.engine.now) in record { kind = e.kind c.args.engine.now.value; reading = e.reading c.args.engine.now.value; state = e.state c.args.engine.now.value; holds = e.holds c.args.engine.now.value }) (let e = goal.Engine-dyn g (object c.begin.new.engine) in record { kind = e.kind c.begin.new.engine.value; reading = e.reading c.begin.new.engine.value; state = e.state c.begin.new.engine.value; holds = e.holds c.begin.new.engine.value }) log _ c.in_default.ensures.same c.in_default.ensures.one_gist from (c.in_default.ensures.gist told))))
     c.in-Ok.ensures.brought.none_prepared
 
 pub returns-in-Ok-clause-others : goal.returns-in-Ok-clause-others
@@ -43,7 +49,7 @@ returns-in-Err-bring-clause-same g c = (ran_both (let e = goal.Engine-dyn g (obj
 pub returns-in-Err-bring-clause-recovers : goal.returns-in-Err-bring-clause-recovers
 returns-in-Err-bring-clause-recovers g c = λ log distinct pairs is told from.
     let fits : Fits (Some log) c.args.xids.now = (distinct, pairs) in
-    recovers_err (let e = goal.Engine-dyn g (object c.args.engine.now) in record { kind = e.kind c.args.engine.now.value; reading = e.reading c.args.engine.now.value; state = e.state c.args.engine.now.value; holds = e.holds c.args.engine.now.value }) (let e = goal.Engine-dyn g (object c.bring.new.engine) in record { kind = e.kind c.bring.new.engine.value; reading = e.reading c.bring.new.engine.value; state = e.state c.bring.new.engine.value; holds = e.holds c.bring.new.engine.value }) log _ _ _ (ran_both (let e = goal.Engine-dyn g (object c.args.engine.now) in record { kind = e.kind c.args.engine.now.value; reading = e.reading c.args.engine.now.value; state = e.state c.args.engine.now.value; holds = e.holds c.args.engine.now.value }) (let e = goal.Engine-dyn g (object c.begin.new.engine) in record { kind = e.kind c.begin.new.engine.value; reading = e.reading c.begin.new.engine.value; state = e.state c.begin.new.engine.value; holds = e.holds c.begin.new.engine.value }) (let e = goal.Engine-dyn g (object c.bring.new.engine) in record { kind = e.kind c.bring.new.engine.value; reading = e.reading c.bring.new.engine.value; state = e.state c.bring.new.engine.value; holds = e.holds c.bring.new.engine.value }) (Some log) _ _ _ (ran_begun (let e = goal.Engine-dyn g (object c.args.engine.now) in record { kind = e.kind c.args.engine.now.value; reading = e.reading c.args.engine.now.value; state = e.state c.args.engine.now.value; holds = e.holds c.args.engine.now.value }) (let e = goal.Engine-dyn g (object c.begin.new.engine) in record { kind = e.kind c.begin.new.engine.value; reading = e.reading c.begin.new.engine.value; state = e.state c.begin.new.engine.value; holds = e.holds c.begin.new.engine.value }) _ _ _ c.in_default.ensures.same c.in_default.ensures.device c.in_default.ensures.any_moment (Some log) from) (c.in-Err-bring.ensures.ran (Some log) fits (trails_begun (let e = goal.Engine-dyn g (object c.args.engine.now) in record { kind = e.kind c.args.engine.now.value; reading = e.reading c.args.engine.now.value; state = e.state c.args.engine.now.value; holds = e.holds c.args.engine.now.value }) (let e = goal.Engine-dyn g (object c.begin.new.engine) in record { kind = e.kind c.begin.new.engine.value; reading = e.reading c.begin.new.engine.value; state = e.state c.begin.new.engine.value; holds = e.holds c.begin.new.engine.value }) log _ c.in_default.ensures.same from (c.in_default.ensures.gist told)))) told
+    recovers_err (let e = goal.Engine-dyn g (object c.args.engine.now) in record { kind = e.kind c.args.engine.now.value; reading = e.reading c.args.engine.now.value; state = e.state c.args.engine.now.value; holds = e.holds c.args.engine.now.value }) (let e = goal.Engine-dyn g (object c.bring.new.engine) in record { kind = e.kind c.bring.new.engine.value; reading = e.reading c.bring.new.engine.value; state = e.state c.bring.new.engine.value; holds = e.holds c.bring.new.engine.value }) log _ _ _ (ran_both (let e = goal.Engine-dyn g (object c.args.engine.now) in record { kind = e.kind c.args.engine.now.value; reading = e.reading c.args.engine.now.value; state = e.state c.args.engine.now.value; holds = e.holds c.args.engine.now.value }) (let e = goal.Engine-dyn g (object c.begin.new.engine) in record { kind = e.kind c.begin.new.engine.value; reading = e.reading c.begin.new.engine.value; state = e.state c.begin.new.engine.value; holds = e.holds c.begin.new.engine.value }) (let e = goal.Engine-dyn g (object c.bring.new.engine) in record { kind = e.kind c.bring.new.engine.value; reading = e.reading c.bring.new.engine.value; state = e.state c.bring.new.engine.value; holds = e.holds c.bring.new.engine.value }) (Some log) _ _ _ (ran_begun (let e = goal.Engine-dyn g (object c.args.engine.now) in record { kind = e.kind c.args.engine.now.value; reading = e.reading c.args.engine.now.value; state = e.state c.args.engine.now.value; holds = e.holds c.args.engine.now.value }) (let e = goal.Engine-dyn g (object c.begin.new.engine) in record { kind = e.kind c.begin.new.engine.value; reading = e.reading c.begin.new.engine.value; state = e.state c.begin.new.engine.value; holds = e.holds c.begin.new.engine.value }) _ _ _ c.in_default.ensures.same c.in_default.ensures.device c.in_default.ensures.any_moment (Some log) from) (c.in-Err-bring.ensures.ran (Some log) fits (goes_begun (let e = goal.Engine-dyn g (object c.args.engine.now) in record { kind = e.kind c.args.engine.now.value; reading = e.reading c.args.engine.now.value; state = e.state c.args.engine.now.value; holds = e.holds c.args.engine.now.value }) (let e = goal.Engine-dyn g (object c.begin.new.engine) in record { kind = e.kind c.begin.new.engine.value; reading = e.reading c.begin.new.engine.value; state = e.state c.begin.new.engine.value; holds = e.holds c.begin.new.engine.value }) log _ c.in_default.ensures.same c.in_default.ensures.one_gist from (c.in_default.ensures.gist told)))) told
     (outside_as _ _ c.open_fault-in-Err-bring.ensures (calls_outside _ _ (Err c.in-Err-bring.fault) c.in-Err-bring.fault c.in-Err-bring.ensures.answers refl (c.in_default.ensures.device.told ∙ told)))
 
 pub returns-in-Err-bring-clause-others : goal.returns-in-Err-bring-clause-others
