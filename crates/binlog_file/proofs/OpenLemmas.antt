@@ -24,7 +24,7 @@ use Rattle.binlog_events.specs.Transaction.{events_of}
 use Rattle.binlog_file.specs.Logged.{header_checksum, log_header, all_events, log_end, log_checksum, log_of, Headed, Headless, IsLogged, IsNoLog, Holds}
 use Rattle.binlog_file.specs.Binlog.{IsLog}
 use Rattle.binlog_events.specs.Found.{NoTransactionAt}
-use Rattle.binlog_file.specs.Opening.{Reached, Walked, IsSafe, OpensFor}
+use Rattle.binlog_file.specs.Opening.{Reached, Walked, IsSafe, OpensFor, IsGiven}
 use Rattle.binlog_file.proofs.LoggedLemmas.{some_bytes, length-log_header}
 use Rattle.binlog_file.proofs.CallLemmas.{length-log_of}
 
@@ -211,6 +211,10 @@ header_opens before a b c size headed v log saw is short changes flushed durable
       };
       visited = λ some visited. subst before (sym (append-nil some)) visited;
     }
+
+-- the visitor is as it was
+pub given_none : (stands : List Transaction → Type 0) (count : ℕ) → count ≡ 0 → IsGiven stands stands count
+given_none stands count none = record { list = []; counted = none; given = λ some before. subst stands (sym (append-nil some)) before }
 
 -- a log was read
 

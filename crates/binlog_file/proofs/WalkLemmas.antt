@@ -21,7 +21,7 @@ use Rattle.row_format.specs.declared.change.Transaction.{Transaction}
 use Rattle.binlog_events.specs.Transaction.{events_of}
 use Rattle.binlog_file.specs.Logged.{header_checksum, log_header, all_events, log_end, log_checksum, log_of, AreFit}
 use Rattle.binlog_events.specs.Found.{Finds, NoTransactionAt}
-use Rattle.binlog_file.specs.Opening.{Reached, Needs, NeverAt, CutOff, Walks, Walked}
+use Rattle.binlog_file.specs.Opening.{Reached, Needs, NeverAt, CutOff, Walks, Walked, IsGiven}
 use Rattle.binlog_file.proofs.LoggedLemmas.{some_bytes, all_events-append, all_events_one, AreFit-append}
 use Rattle.binlog_file.proofs.CallLemmas.{length-log_of, log_of-append, log_end-append, log_checksum-append}
 
@@ -169,11 +169,14 @@ pub record Reading (first stands : List Transaction → Type 0) (start : Disk) (
   pub so_far : IsTrue start.told → IsPrefix log_header (contents start 0)
       → (list : List Transaction) × Reached scan list × ((some : List Transaction) → first some → stands (some ++ list)) × (rest : List ℕ) × (contents start 0 ≡ log_of list ++ rest)
 
+reached_none : (scan : Scan) → scan.count ≡ 0 → scan.len ≡ 32 → scan.crc ≡ header_checksum → Reached scan []
+reached_none scan count len crc = record { fit = tt; ends = omega arith; count = count; len = len; crc = crc }
+
 pub reading_first : (stands : List Transaction → Type 0) (start : Disk) (scan : Scan) → scan.count ≡ 0 → scan.len ≡ 32 → scan.crc ≡ header_checksum → Reading stands stands start scan
 reading_first stands start scan count len crc = record {
   so_far = λ told headed. (
     [],
-    record { fit = tt; ends = omega arith; count = count; len = len; crc = crc },
+    reached_none scan count len crc,
     λ some visited. subst stands (sym (append-nil some)) visited,
     headed.0,
     headed.1 ∙ ap (λ (l : List ℕ). l ++ headed.0) (sym (ap (λ (l : List ℕ). log_header ++ l) (chain_of-nil header_checksum header_len) ∙ append-nil log_header)),
@@ -309,6 +312,39 @@ reading_short first stands next start d last scan new buf_old buf_new bytes n at
     let cut = some_is needs needed (CutOff all walk.rest is_last) some walk.goes_on in
     whole first next start new walk.rest is_last all behind (λ t here.
     omega (arith, less, (cut.needs).least t behind.beyond here, ap length here.stands, length-append (chain_of (log_checksum all) (log_end all) (events_of t)) here.rest, length-chain_of (log_checksum all) (log_end all) (events_of t)))
+
+-- ---- what the visitor was given, whatever the contents are
+
+-- a reading has come behind some transactions, and they were given to the visitor
+pub record Giving (first stands : List Transaction → Type 0) (scan : Scan) : Type 0 where
+  pub list : List Transaction
+  pub reached : Reached scan list
+  pub given : (some : List Transaction) → first some → stands (some ++ list)
+
+pub giving_first : (stands : List Transaction → Type 0) (scan : Scan) → scan.count ≡ 0 → scan.len ≡ 32 → scan.crc ≡ header_checksum → Giving stands stands scan
+giving_first stands scan count len crc = record {
+  list = [];
+  reached = reached_none scan count len crc;
+  given = λ some before. subst stands (sym (append-nil some)) before;
+}
+
+-- a piece was read
+pub giving_more : (first stands next : List Transaction → Type 0) (scan new : Scan) (bytes : List ℕ) (is_last : Bool) (needs : Option ℕ)
+    → Giving first stands scan → ((list : List Transaction) → Reached scan list → Walks stands next list bytes new is_last needs) → Giving first next new
+giving_more first stands next scan new bytes is_last needs giving walks =
+    let walk = walks giving.list giving.reached in
+    record {
+      list = giving.list ++ walk.more;
+      reached = walk.reached;
+      given = λ some before. subst next (append_assoc some giving.list walk.more) (walk.visited (some ++ giving.list) (giving.given some before));
+    }
+
+-- the piece was the last that is read
+pub giving_end : (first stands next : List Transaction → Type 0) (scan new : Scan) (bytes : List ℕ) (is_last : Bool) (needs : Option ℕ)
+    → Giving first stands scan → ((list : List Transaction) → Reached scan list → Walks stands next list bytes new is_last needs) → IsGiven first next new.count
+giving_end first stands next scan new bytes is_last needs giving walks =
+    let all = giving_more first stands next scan new bytes is_last needs giving walks in
+    record { list = all.list; counted = (all.reached).count; given = all.given }
 
 -- ---- errors, and what is left
 

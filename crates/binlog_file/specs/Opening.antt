@@ -62,6 +62,12 @@ pub record Walked (before after : List Transaction → Type 0) (bytes : List ℕ
   pub visited : (some : List Transaction) → before some → after (some ++ list)
   pub headed : Headed bytes list
 
+-- so many transactions were given to the visitor, one after the other
+pub record IsGiven (before after : List Transaction → Type 0) (count : ℕ) : Type 0 where
+  pub list : List Transaction
+  pub counted : count ≡ length list
+  pub given : (some : List Transaction) → before some → after (some ++ list)
+
 -- the file is as it was, or each faithful crash image of it has the transactions that it had and no others
 abbrev pub IsSafe : File → File → Type 0
 IsSafe was file = (file ≡ was) ⊎ ((list : List Transaction) × IsLogged was.bytes list × Holds list list file)

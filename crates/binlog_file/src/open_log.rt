@@ -7,7 +7,8 @@ ghost use Rattle.std.specs.Prelude.{◌≡◌, ◌<◌, ℕ, List, IfOk, OnOk, I
 ghost use Rattle.fault_counts.specs.Rose.{Rose};
 ghost use Rattle.disk_model.specs.Disk.{Disk, now, contents, Keeps, Only, HasCause};
 ghost use Rattle.binlog_file.specs.Logged.{IsNoLog};
-ghost use Rattle.binlog_file.specs.Opening.{IsSafe, OpensFor};
+ghost use Rattle.binlog_file.specs.Binlog.{flushed_of};
+ghost use Rattle.binlog_file.specs.Opening.{IsSafe, OpensFor, IsGiven};
 ghost use Rattle.row_format.specs.declared.change.Transaction.{Transaction};
 ghost use Rattle.binlog_file.specs.declared.fault.BinlogFault.TheVariants.{Device, NotAVolume};
 
@@ -43,6 +44,10 @@ impl Binlog {
         ensures opened { IsTrue (disk volume.old).told
             → IfOk result (λ o. OpensFor (V.stands visit.old) (V.stands visit.new)
             (disk volume.old) (disk volume.new) o.log o.cut) }
+
+        // Whatever the contents are, the visitor was given as many transactions as the log counts.
+        ensures visited { IfOk result (λ o.
+            IsGiven (V.stands visit.old) (V.stands visit.new) (flushed_of o.log)) }
 
         // An opening may crash too.
         ensures any_moment { IsTrue (disk volume.old).told

@@ -10,7 +10,7 @@ ghost use Rattle.disk_model.specs.Looking.{LooksOnly};
 ghost use Rattle.fault_counts.specs.Rose.{Rose};
 ghost use Rattle.framed_file.specs.Framed.{IsPrefix};
 ghost use Rattle.binlog_file.specs.Logged.{log_header};
-ghost use Rattle.binlog_file.specs.Opening.{Reached, Walks, Further, Walked};
+ghost use Rattle.binlog_file.specs.Opening.{Reached, Walks, Further, Walked, IsGiven};
 ghost use Rattle.row_format.specs.declared.change.Transaction.{Transaction};
 ghost use Rattle.binlog_file.specs.declared.fault.BinlogFault.TheVariants.{Device, NotAVolume};
 
@@ -109,6 +109,8 @@ pub(crate) fn read_all<V: Visit>(
         → IsPrefix log_header (contents (disk volume.old) 0)
         → IfOk result (Walked (V.stands visit.old) (V.stands visit.new)
         (contents (disk volume.old) 0)) }
+    ensures given { IfOk result (λ scan.
+        IsGiven (V.stands visit.old) (V.stands visit.new) scan.count) }
     ensures looks { LooksOnly (disk volume.old) (disk volume.new) }
     ensures no_refusal { (file : ℕ) → result ≡ Err (NotAVolume file) → ⊥ }
     ensures device { IsErrOf result Device

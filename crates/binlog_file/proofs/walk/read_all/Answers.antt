@@ -4,13 +4,14 @@ use Rattle.disk_model.proofs.LookingLemmas.{looks_none, looks_more, looks_both}
 use Rattle.binlog_file.specs.declared.fault.BinlogFault.TheVariants.{Device, NotAVolume}
 use Rattle.binlog_file.specs.Opening.{Further}
 use Rattle.binlog_file.proofs.LoggedLemmas.{header_checksum_is}
-use Rattle.binlog_file.proofs.WalkLemmas.{some_is, piece_is, not_device, same_fault, reading_first, reading_more, reading_end, reading_short, full, less_left, small_grown, call_failed, rose_behind}
+use Rattle.binlog_file.proofs.WalkLemmas.{some_is, piece_is, not_device, same_fault, reading_first, reading_more, reading_end, reading_short, giving_first, giving_more, giving_end, full, less_left, small_grown, call_failed, rose_behind}
 use Rattle.binlog_file.proofs.walk.read_all.Goals as goal
 
 pub loop-piece-init : goal.loop-piece-init
 loop-piece-init g c = record {
   looks = looks_none _;
   reading = reading_first _ _ _ refl refl (sym header_checksum_is);
+  giving = giving_first _ _ refl refl (sym header_checksum_is);
   small = omega (arith, c.in_ok-piece.ensures.len);
 }
 
@@ -33,6 +34,9 @@ pub returns-in_default-clause-walked : goal.returns-in_default-clause-walked
 returns-in_default-clause-walked g c =
     reading_end _ _ _ _ _ _ _ _ _ _ _ _ _ _ c.loop-piece.invariant.looks c.loop-piece.invariant.reading refl
     (piece_is _ _ _ _ _ _ _ _ _ c.in_ok-n.ensures.value c.read_piece.ensures.len c.deref.ensures.value (omega (arith, c.len.ensures)) refl refl) c.in_ok-needed.ensures.walks c.in_default.is
+
+pub returns-in_default-clause-given : goal.returns-in_default-clause-given
+returns-in_default-clause-given g c = giving_end _ _ _ _ _ _ _ _ c.loop-piece.invariant.giving c.in_ok-needed.ensures.walks
 
 pub returns-in_err-grow-clause-looks : goal.returns-in_err-grow-clause-looks
 returns-in_err-grow-clause-looks g c = looks_both _ _ _ (looks_more _ _ _ _ _ c.loop-piece.invariant.looks c.read_piece.ensures.called) c.grow.ensures.looks
@@ -57,6 +61,9 @@ returns-then-not-branch-clause-walked g c =
     (piece_is _ _ _ _ _ _ _ _ _ c.in_ok-n.ensures.value c.read_piece.ensures.len c.deref.ensures.value (omega (arith, c.len.ensures)) refl refl) c.in_ok-needed.ensures.walks c.in-Some.is
     (λ is_told. c.in_ok-grow.ensures.short is_told c.if-not-branch.true)
 
+pub returns-then-not-branch-clause-given : goal.returns-then-not-branch-clause-given
+returns-then-not-branch-clause-given g c = giving_end _ _ _ _ _ _ _ _ c.loop-piece.invariant.giving c.in_ok-needed.ensures.walks
+
 pub loop-piece-smaller : goal.loop-piece-smaller
 loop-piece-smaller g c =
     let further = some_is _ c.in-Some.needed (Further c.loop-piece.scan c.take_whole.new.scan _ _) c.in-Some.is c.in_ok-needed.ensures.further in
@@ -75,5 +82,6 @@ loop-piece-preserved g c =
       looks = looks_both _ _ _ (looks_more _ _ _ _ _ c.loop-piece.invariant.looks c.read_piece.ensures.called) c.grow.ensures.looks;
       reading = reading_more _ _ _ _ _ _ _ _ _ _ _ _ _ _ c.loop-piece.invariant.looks c.loop-piece.invariant.reading refl
           (piece_is _ _ _ _ _ _ _ _ _ c.in_ok-n.ensures.value c.read_piece.ensures.len c.deref.ensures.value (omega (arith, c.len.ensures)) refl refl) c.in_ok-needed.ensures.walks;
+      giving = giving_more _ _ _ _ _ _ _ _ c.loop-piece.invariant.giving c.in_ok-needed.ensures.walks;
       small = small_grown _ _ _ _ _ c.loop-piece.invariant.small further.within c.read_piece.ensures.len c.in_ok-grow.ensures.bounded;
     }

@@ -1,6 +1,6 @@
 use Rattle.std.proofs.Common.{◌+◌, ◌-◌, ◌*◌, ◌≤◌, ◌^◌, length}
 use Rattle.disk_model.specs.Looking.{LooksOnly}
-use Rattle.binlog_file.proofs.WalkLemmas.{Reading}
+use Rattle.binlog_file.proofs.WalkLemmas.{Reading, Giving}
 use Rattle.binlog_file.proofs.walk.read_all.Given as goal
 
 abbrev pub invariant-loop-piece : goal.invariant-loop-piece
@@ -9,6 +9,7 @@ invariant-loop-piece g l =
     record {
       looks : LooksOnly start ((goal.Storage-dyn g l.volume.now).disk l.volume.now.1);
       reading : Reading (g.V.Visit.stands l.fn.visit) (g.V.Visit.stands l.visit) start l.scan;
+      giving : Giving (g.V.Visit.stands l.fn.visit) (g.V.Visit.stands l.visit) l.scan;
       small : length l.piece.items ≤ 2 ^ 32;
     }
 
