@@ -1,6 +1,6 @@
 -- One engine from its beginning to its report.
 use Rattle.std.proofs.Common.{◌≡◌, inl, inr, ℕ, zero, suc, ◌+◌, ◌-◌, ◌<◌, ◌≤◌, List, [], ◌∷◌, Option, Some, None, Bool, true, false, Result, Ok, refl, sym, ap, subst, ◌∙◌, arith, map, length, IsTrue}
-use Rattle.std.specs.Prelude.{Contains, Err, IsErrOf, ◌==◌, ◌||◌, ◌&&◌, not}
+use Rattle.std.specs.Prelude.{Contains, Err, IsErrOf, ◌==◌, ◌||◌, ◌&&◌, not, nat_lt}
 use Rattle.std.specs.BTreeSet.{BTreeSet, contains}
 use Rattle.std.specs.List.Sorted.{IsStrictlySortedBy}
 use Rattle.std.specs.Ordering.{nat_cmp}
@@ -283,11 +283,15 @@ recovers_ok was it log report start b ran told goes none = record {
 
 -- Of recoverable files the engine is not ahead.
 pub recovers_ahead : (was it : Working) (log : List Transaction) (logged : ℕ) (fault : OpenFault) (start b : Disk) → StandForOne was.reading → Found was.kind was.reading start it.state.gist
-    → logged < it.state.gist.last → logged ≡ length log → IsTrue start.told → IsRecoverableIn was.kind was.reading log start
+    → nat_lt logged it.state.gist.last ≡ true → logged ≡ length log → IsTrue start.told → IsRecoverableIn was.kind was.reading log start
     → Recovers was.kind was.reading log (Err fault) it.state start b
-recovers_ahead was it log logged fault start b one found less is told from =
+recovers_ahead was it log logged fault start b one found ahead is told from =
     let low = (goes_contents was.kind was.reading log start it.state.gist one from (found told)).trails.not_ahead in
-    absurd (omega (arith, low, is, less))
+    let past = less logged it.state.gist.last ahead in
+    absurd (omega (arith, low, is, past))
+  where
+    less : (a b : ℕ) → nat_lt a b ≡ true → a < b
+    less a b h = grind arith
 
 may_outside : (fault : EngineFault) (files : List ℕ) → MayCome [] files true fault → IsDoneOrOutside {T = EngineReport} (Err (opened fault))
 may_outside (code it) files h = tt

@@ -1,5 +1,5 @@
 //! One engine is brought to what the log says.
-ghost use Rattle.std.specs.Prelude.{◌≡◌, [], ℕ, List, Option, length, Err, OnOk, IfOk, IsTrue};
+ghost use Rattle.std.specs.Prelude.{◌≡◌, [], ℕ, List, Option, length, Err, OnOk, IfOk, IsTrue, nat_lt};
 ghost use Rattle.disk_model.specs.Disk.{Disk, now, Keeps, HasCause};
 ghost use Rattle.row_format.specs.declared.change.Transaction.{Transaction};
 ghost use Rattle.recovery_rules.specs.Places.{IsDistinct};
@@ -77,6 +77,13 @@ fn bring(
     Ok(told)
 }
 
+// Whether the engine's last number exceeds the log's.
+fn is_ahead(engine: &Box<dyn Engine + Send>, logged: u64) -> bool
+    ensures { result ≡ nat_lt logged (state engine.now).gist.last }
+{
+    engine.last_number() > logged
+}
+
 // That the engine's last number exceeds the log's; or there is no memory to tell its name.
 fn ahead(engine: &Box<dyn Engine + Send>, logged: u64) -> OpenFault
     ensures { Tells (kind engine.now).name (state engine.now).gist.last logged result }
@@ -130,7 +137,7 @@ pub fn recover_one(
     if let Err(fault) = begin(engine, volume) {
         return Err(open_fault(fault));
     }
-    if engine.last_number() > logged {
+    if is_ahead(engine, logged) {
         return Err(ahead(engine, logged));
     }
     match bring(alloc, volume, engine, xids) {

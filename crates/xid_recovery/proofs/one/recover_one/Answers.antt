@@ -1,4 +1,4 @@
-use Rattle.std.proofs.Common.{arith, Err, refl, ap, ◌∙◌, subst, None, Some}
+use Rattle.std.proofs.Common.{Err, refl, sym, ◌∙◌, subst, None, Some}
 use Rattle.disk_model.specs.Object.{object}
 use Rattle.engine_api.specs.States.{Kind}
 use Rattle.xid_recovery.specs.Recovers.{GoesWith}
@@ -15,14 +15,12 @@ returns-in-Err-clause-recovers g c = λ log distinct pairs is told from.
 pub returns-in-Err-clause-others : goal.returns-in-Err-clause-others
 returns-in-Err-clause-others g c = others (let e = goal.Engine-dyn g (object c.args.engine.now) in record { kind = e.kind c.args.engine.now.value; reading = e.reading c.args.engine.now.value; state = e.state c.args.engine.now.value; holds = e.holds c.args.engine.now.value }) (let e = goal.Engine-dyn g (object c.begin.new.engine) in record { kind = e.kind c.begin.new.engine.value; reading = e.reading c.begin.new.engine.value; state = e.state c.begin.new.engine.value; holds = e.holds c.begin.new.engine.value }) _ _ (ran_begun (let e = goal.Engine-dyn g (object c.args.engine.now) in record { kind = e.kind c.args.engine.now.value; reading = e.reading c.args.engine.now.value; state = e.state c.args.engine.now.value; holds = e.holds c.args.engine.now.value }) (let e = goal.Engine-dyn g (object c.begin.new.engine) in record { kind = e.kind c.begin.new.engine.value; reading = e.reading c.begin.new.engine.value; state = e.state c.begin.new.engine.value; holds = e.holds c.begin.new.engine.value }) _ _ _ c.in-Err.ensures.same c.in-Err.ensures.device c.in-Err.ensures.any_moment None tt)
 
-pub returns-then-last_number-logged-clause-recovers : goal.returns-then-last_number-logged-clause-recovers
-returns-then-last_number-logged-clause-recovers g c = λ log distinct pairs is told from.
-    let last = c.last_number.ensures ∙ ap (λ o. ((goal.Engine-dyn g o).state o.1).gist.last) c.deref_box-1.ensures.1 in
-    let past = c.if-last_number-logged.true in
-    recovers_ahead (let e = goal.Engine-dyn g (object c.args.engine.now) in record { kind = e.kind c.args.engine.now.value; reading = e.reading c.args.engine.now.value; state = e.state c.args.engine.now.value; holds = e.holds c.args.engine.now.value }) (let e = goal.Engine-dyn g (object c.begin.new.engine) in record { kind = e.kind c.begin.new.engine.value; reading = e.reading c.begin.new.engine.value; state = e.state c.begin.new.engine.value; holds = e.holds c.begin.new.engine.value }) log c.args.logged _ _ _ c.in_default.ensures.one_gist c.in_default.ensures.gist (omega (arith, last, past)) is told from
+pub returns-then-is_ahead-clause-recovers : goal.returns-then-is_ahead-clause-recovers
+returns-then-is_ahead-clause-recovers g c = λ log distinct pairs is told from.
+    recovers_ahead (let e = goal.Engine-dyn g (object c.args.engine.now) in record { kind = e.kind c.args.engine.now.value; reading = e.reading c.args.engine.now.value; state = e.state c.args.engine.now.value; holds = e.holds c.args.engine.now.value }) (let e = goal.Engine-dyn g (object c.begin.new.engine) in record { kind = e.kind c.begin.new.engine.value; reading = e.reading c.begin.new.engine.value; state = e.state c.begin.new.engine.value; holds = e.holds c.begin.new.engine.value }) log c.args.logged _ _ _ c.in_default.ensures.one_gist c.in_default.ensures.gist (sym c.is_ahead.ensures ∙ c.if-is_ahead.true) is told from
 
-pub returns-then-last_number-logged-clause-others : goal.returns-then-last_number-logged-clause-others
-returns-then-last_number-logged-clause-others g c = others (let e = goal.Engine-dyn g (object c.args.engine.now) in record { kind = e.kind c.args.engine.now.value; reading = e.reading c.args.engine.now.value; state = e.state c.args.engine.now.value; holds = e.holds c.args.engine.now.value }) (let e = goal.Engine-dyn g (object c.begin.new.engine) in record { kind = e.kind c.begin.new.engine.value; reading = e.reading c.begin.new.engine.value; state = e.state c.begin.new.engine.value; holds = e.holds c.begin.new.engine.value }) _ _ (ran_begun (let e = goal.Engine-dyn g (object c.args.engine.now) in record { kind = e.kind c.args.engine.now.value; reading = e.reading c.args.engine.now.value; state = e.state c.args.engine.now.value; holds = e.holds c.args.engine.now.value }) (let e = goal.Engine-dyn g (object c.begin.new.engine) in record { kind = e.kind c.begin.new.engine.value; reading = e.reading c.begin.new.engine.value; state = e.state c.begin.new.engine.value; holds = e.holds c.begin.new.engine.value }) _ _ _ c.in_default.ensures.same c.in_default.ensures.device c.in_default.ensures.any_moment None tt)
+pub returns-then-is_ahead-clause-others : goal.returns-then-is_ahead-clause-others
+returns-then-is_ahead-clause-others g c = others (let e = goal.Engine-dyn g (object c.args.engine.now) in record { kind = e.kind c.args.engine.now.value; reading = e.reading c.args.engine.now.value; state = e.state c.args.engine.now.value; holds = e.holds c.args.engine.now.value }) (let e = goal.Engine-dyn g (object c.begin.new.engine) in record { kind = e.kind c.begin.new.engine.value; reading = e.reading c.begin.new.engine.value; state = e.state c.begin.new.engine.value; holds = e.holds c.begin.new.engine.value }) _ _ (ran_begun (let e = goal.Engine-dyn g (object c.args.engine.now) in record { kind = e.kind c.args.engine.now.value; reading = e.reading c.args.engine.now.value; state = e.state c.args.engine.now.value; holds = e.holds c.args.engine.now.value }) (let e = goal.Engine-dyn g (object c.begin.new.engine) in record { kind = e.kind c.begin.new.engine.value; reading = e.reading c.begin.new.engine.value; state = e.state c.begin.new.engine.value; holds = e.holds c.begin.new.engine.value }) _ _ _ c.in_default.ensures.same c.in_default.ensures.device c.in_default.ensures.any_moment None tt)
 
 pub bring-requires : goal.bring-requires
 bring-requires g c = record { idle = begun_idle (let e = goal.Engine-dyn g (object c.args.engine.now) in record { kind = e.kind c.args.engine.now.value; reading = e.reading c.args.engine.now.value; state = e.state c.args.engine.now.value; holds = e.holds c.args.engine.now.value }) (let e = goal.Engine-dyn g (object c.begin.new.engine) in record { kind = e.kind c.begin.new.engine.value; reading = e.reading c.begin.new.engine.value; state = e.state c.begin.new.engine.value; holds = e.holds c.begin.new.engine.value }) ((goal.Storage-dyn g c.args.volume.now).disk c.args.volume.now.1) ((goal.Storage-dyn g (c.args.volume.now.0, c.begin.new.volume)).disk c.begin.new.volume) c.in_default.ensures.same c.in_default.ensures.begun c.in_default.ensures.device.told c.in_default.ensures.files }
