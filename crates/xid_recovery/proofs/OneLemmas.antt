@@ -1,5 +1,6 @@
 -- One engine from its beginning to its report.
 use Rattle.std.proofs.Common.{◌≡◌, inl, inr, ℕ, zero, suc, ◌+◌, ◌-◌, ◌<◌, ◌≤◌, List, [], ◌∷◌, Option, Some, None, Bool, true, false, Result, Ok, refl, sym, ap, subst, ◌∙◌, arith, map, length, IsTrue}
+use Rattle.std.proofs.lemmas.Bool.Decides.{nat_tests}
 use Rattle.std.specs.Prelude.{Contains, Err, IsErrOf, ◌==◌, ◌||◌, ◌&&◌, not, nat_lt}
 use Rattle.std.specs.BTreeSet.{BTreeSet, contains}
 use Rattle.std.specs.List.Sorted.{IsStrictlySortedBy}
@@ -416,3 +417,11 @@ no_code_behind files told inner fault only is it same =
 
 pub outside_as : (outer : OpenFault) (fault : EngineFault) → outer ≡ opened fault → IsDoneOrOutside {T = EngineReport} (Err (opened fault)) → IsDoneOrOutside {T = EngineReport} (Err outer)
 outside_as outer fault is h = subst (λ f. IsDoneOrOutside {T = EngineReport} (Err f)) (sym is) h
+
+-- the engine was not ahead of the log
+pub not_ahead : (logged last : ℕ) (b : Bool) → b ≡ nat_lt logged last → b ≡ false → last ≤ logged
+not_ahead logged last b is none = go (nat_lt logged last) refl (sym is ∙ none)
+  where
+    go : (x : Bool) → nat_lt logged last ≡ x → x ≡ false → last ≤ logged
+    go true at taken = cc
+    go false at _ = grind (arith, nat_tests, at)

@@ -1,12 +1,17 @@
 -- How far a recovery is after one xid more.
-use Rattle.std.proofs.Common.{◌≡◌, ℕ, zero, suc, ◌+◌, ◌<◌, ◌≤◌, List, [], ◌∷◌, Option, Bool, true, false, Result, Ok, refl, sym, ap, subst, ◌∙◌, arith, take, length, get_or}
-use Rattle.std.specs.Prelude.{Err, OnOk, ◌==◌, ◌||◌, ◌&&◌, not}
+use Rattle.std.proofs.Common.{◌≡◌, ℕ, zero, suc, ◌+◌, ◌<◌, ◌≤◌, List, [], ◌∷◌, Option, None, Some, Bool, true, false, cond, Result, Ok, refl, sym, ap, subst, ◌∙◌, arith, take, length, get_or}
+use Rattle.std.specs.Prelude.{All, nat_lt, Err, OnOk, ◌==◌, ◌||◌, ◌&&◌, not}
 use Rattle.std.specs.BTreeSet.{BTreeSet, contains}
 use Rattle.std.specs.Ordering.{nat_cmp}
 use Rattle.disk_model.specs.Disk.{Disk}
 use Rattle.row_format.specs.declared.change.Transaction.{Transaction}
+use Rattle.std.proofs.lemmas.List.Elements.{All-head, All-tail}
+use Rattle.log_tables.specs.declared.gist.Prepared.{Prepared}
+use Rattle.log_tables.specs.declared.gist.Gist.{Gist}
+use Rattle.log_tables.specs.Changes.{all_apply}
+use Rattle.log_tables.specs.Gists.{prepared_with, after_commit, after_rollback}
 use Rattle.engine_api.specs.declared.fault.EngineFault.{EngineFault}
-use Rattle.engine_api.specs.States.{EngineState, resolved_state, dropped_state}
+use Rattle.engine_api.specs.States.{EngineState, resolved, resolved_state, dropped_state}
 use Rattle.engine_api.specs.Reads.{EachReads, files_in}
 use Rattle.engine_api.specs.Calls.{IsDevice, IsSame, Turns}
 use Rattle.engine_api.specs.Many.{Working}
@@ -68,6 +73,7 @@ so_far_begins was pairs left d idle has = record {
   fewer = omega arith;
   ran = λ aim fits aims. ran_none was aim d idle aims;
   on_way = λ aim fits aims. on_way_at_first was.kind aim was.state.gist aims;
+  last = λ bound all within. within;
 }
 
 -- While the pair at a place has its turn the run goes on.
@@ -83,6 +89,24 @@ ran_resolved was it new pairs count pair d result all left start a b far lt is s
   where
     way : IsOnWay was.kind aim count it.state.gist
     way = far.on_way aim fits aims
+
+-- the number of the pair at a place is within what all are
+number_at : (bound : ℕ) (pairs : List (ℕ × ℕ)) (n : ℕ) (d : ℕ × ℕ) → n < length pairs → All (λ (pair : ℕ × ℕ). pair.1 ≤ bound) pairs → (get_or pairs n d).1 ≤ bound
+number_at bound [] n d lt all = absurd (omega (arith, lt))
+number_at bound (p ∷ pairs) zero d lt all = All-head (λ (pair : ℕ × ℕ). pair.1 ≤ bound) p pairs all
+number_at bound (p ∷ pairs) (suc n) d lt all = number_at bound pairs n d (omega (arith, lt)) (All-tail (λ (pair : ℕ × ℕ). pair.1 ≤ bound) p pairs all)
+
+-- a commit by xid leaves the last number, or makes it this one
+last-resolved : (bound xid number : ℕ) (gist : Gist) → number ≤ bound → gist.last ≤ bound → (resolved (prepared_with xid gist.prepared) number gist).last ≤ bound
+last-resolved bound xid number gist low within = go (prepared_with xid gist.prepared)
+  where
+    either : (b : Bool) (g h : Gist) → g.last ≤ bound → h.last ≤ bound → (cond b g h).last ≤ bound
+    either true g h one other = one
+    either false g h one other = other
+
+    go : (o : Option Prepared) → (resolved o number gist).last ≤ bound
+    go None = within
+    go (Some it) = either (nat_lt gist.last number && all_apply it.changes gist.tables) (after_commit it number gist) (after_rollback it.xid gist) low within
 
 -- One pair more is decided.
 pub so_far_next : {T : Type 0} (was it new : Working) (pairs : List (ℕ × ℕ)) (count : ℕ) (pair d : ℕ × ℕ) (value : T) (all left rest : BTreeSet ℕ) (start a b : Disk)
@@ -100,6 +124,9 @@ so_far_next was it new pairs count pair d value all left rest start a b far lt i
       on_way = λ aim fits aims.
           subst (λ k. IsOnWay was.kind aim k new.state.gist) one
           (subst (λ (s : EngineState). IsOnWay was.kind aim (suc count) s.gist) (sym turns.ok) (on_way-resolved was.kind aim pairs count pair d it.state fits lt is (far.on_way aim fits aims)));
+      last = λ bound all within.
+          subst (λ (s : EngineState). s.gist.last ≤ bound) (sym turns.ok)
+          (last-resolved bound pair.0 pair.1 it.state.gist (subst (λ (p : ℕ × ℕ). p.1 ≤ bound) is (number_at bound pairs count d lt all)) (far.last bound all within));
     }
 
 -- rollbacks
@@ -110,6 +137,7 @@ rolling_begins was left d idle has = record {
   prepared = has;
   ran = λ aim place end way. ran_none was aim d idle (aims_on_way was.kind aim place was.state.gist way);
   on_way = λ aim place end way. way;
+  last = refl;
 }
 
 -- While an xid that is left has its turn the run goes on.
@@ -138,4 +166,5 @@ rolling_next was it new xid value left rest start a b far is same turns without 
   on_way = λ aim place end begun.
       subst (λ (s : EngineState). IsOnWay was.kind aim place s.gist) (sym turns.ok)
       (on_way-dropped was.kind aim place xid it.state end (sym (far.prepared xid) ∙ is) (far.on_way aim place end begun));
+  last = ap (λ (s : EngineState). s.gist.last) turns.ok ∙ far.last;
 }

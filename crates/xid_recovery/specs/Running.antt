@@ -1,5 +1,5 @@
 -- How far a recovery of one engine has come: what this crate's functions say to one another. (This project.)
-use Rattle.std.specs.Prelude.{◌≡◌, ◌≤◌, ℕ, List, Option, None, Some, IsTrue, not, ◌&&◌, ◌==◌, take, length}
+use Rattle.std.specs.Prelude.{◌≡◌, ◌≤◌, ℕ, List, Option, None, Some, IsTrue, not, ◌&&◌, ◌==◌, take, length, All}
 use Rattle.std.specs.BTreeSet.{BTreeSet, contains}
 use Rattle.std.specs.Ordering.{nat_cmp}
 use Rattle.disk_model.specs.File.{File}
@@ -68,6 +68,10 @@ IsWithout xid old new = (x : ℕ) → contains nat_cmp new x ≡ (not (x == xid)
 abbrev pub IsWithoutAll : List (ℕ × ℕ) → BTreeSet ℕ → BTreeSet ℕ → Type 0
 IsWithoutAll pairs old new = (x : ℕ) → contains nat_cmp new x ≡ (not (has x (xids_in pairs)) && contains nat_cmp old x)
 
+-- where no pair's number is above a bound, nor the last number of the first gist, then that of the second is not
+abbrev pub LastWithin : List (ℕ × ℕ) → Gist → Gist → Type 0
+LastWithin pairs old new = (bound : ℕ) → All (λ (pair : ℕ × ℕ). pair.1 ≤ bound) pairs → old.last ≤ bound → new.last ≤ bound
+
 -- so many pairs, from the first, are decided
 pub record SoFar (was it : Working) (pairs : List (ℕ × ℕ)) (count : ℕ) (all left : BTreeSet ℕ) (start end : Disk) : Type 0 where
   pub idle : IsIdle it end
@@ -76,6 +80,7 @@ pub record SoFar (was it : Working) (pairs : List (ℕ × ℕ)) (count : ℕ) (a
   pub fewer : length left.keys ≤ length all.keys
   pub ran : (aim : Option (List Transaction)) → Fits aim pairs → Aims was.kind aim was.state.gist → Ran was it aim start end
   pub on_way : (aim : Option (List Transaction)) → Fits aim pairs → Aims was.kind aim was.state.gist → IsOnWay was.kind aim count it.state.gist
+  pub last : LastWithin pairs was.state.gist it.state.gist
 
 -- some of what was left is rolled back
 pub record RollingBack (was it : Working) (left : BTreeSet ℕ) (start end : Disk) : Type 0 where
@@ -83,6 +88,7 @@ pub record RollingBack (was it : Working) (left : BTreeSet ℕ) (start end : Dis
   pub prepared : HasPrepared left it.state.gist
   pub ran : (aim : Option (List Transaction)) (place : ℕ) → IsEnd aim place → IsOnWay was.kind aim place was.state.gist → Ran was it aim start end
   pub on_way : (aim : Option (List Transaction)) (place : ℕ) → IsEnd aim place → IsOnWay was.kind aim place was.state.gist → IsOnWay was.kind aim place it.state.gist
+  pub last : it.state.gist.last ≡ was.state.gist.last
 
 -- that the last number of this engine exceeds the log's, or that there was no memory
 abbrev pub Tells : List ℕ → ℕ → ℕ → OpenFault → Type 0

@@ -1,5 +1,5 @@
 //! One engine is brought to what the log says.
-ghost use Rattle.std.specs.Prelude.{◌≡◌, [], ℕ, List, Option, length, Err, OnOk, IfOk, IsTrue, nat_lt};
+ghost use Rattle.std.specs.Prelude.{◌≡◌, ◌≤◌, [], All, ℕ, List, Option, length, Err, OnOk, IfOk, IsTrue, nat_lt};
 ghost use Rattle.disk_model.specs.Disk.{Disk, now, Keeps, HasCause};
 ghost use Rattle.row_format.specs.declared.change.Transaction.{Transaction};
 ghost use Rattle.recovery_rules.specs.Places.{IsDistinct};
@@ -8,7 +8,7 @@ ghost use Rattle.engine_api.specs.Reads.{OnlyIn};
 ghost use Rattle.engine_api.specs.Many.{working};
 ghost use Rattle.xid_recovery.specs.Pairs.{ArePairsOf};
 ghost use Rattle.xid_recovery.specs.Recovers.{IsDeviceFault, IsRecoverableIn, IsIdle, IsBrought, Recovers, Reports, IsReport, TellsOnly};
-ghost use Rattle.xid_recovery.specs.Running.{Fits, Aims, Ran, Tells};
+ghost use Rattle.xid_recovery.specs.Running.{Fits, Aims, LastWithin, Ran, Tells};
 ghost use Rattle.engine_api.specs.declared.fault.EngineFault.{EngineFault};
 ghost use Rattle.engine_api.specs.declared.fault.EngineFault.TheVariants.{Memory as NoMemory};
 
@@ -59,6 +59,8 @@ fn bring(
     ensures aims { (aim : Option (List Transaction)) → Fits aim xids.now
         → Aims (kind engine.old) aim (state engine.old).gist
         → OnOk result (Aims (kind engine.old) aim (state engine.new).gist) }
+    ensures last { OnOk result
+        (LastWithin xids.now (state engine.old).gist (state engine.new).gist) }
     ensures brought { OnOk result (IsBrought
         (working (kind engine.new) (reading engine.new) (state engine.new) (holds engine.new))
         (disk volume.new)) }
@@ -118,6 +120,8 @@ pub fn recover_one(
     ensures brought { OnOk result (IsBrought
         (working (kind engine.new) (reading engine.new) (state engine.new) (holds engine.new))
         (disk volume.new)) }
+    ensures last { OnOk result (All (λ pair. pair.1 ≤ logged) xids.now
+        → (state engine.new).gist.last ≤ logged) }
     ensures report { IfOk result (IsReport (kind engine.old) (reading engine.old)
         (disk volume.old) logged xids.now (state engine.new).gist.last) }
 

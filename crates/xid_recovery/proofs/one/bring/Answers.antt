@@ -1,6 +1,7 @@
-use Rattle.std.proofs.Common.{Err, refl, ◌∙◌, ap, None}
+use Rattle.std.proofs.Common.{Err, refl, ◌∙◌, ap, None, arith}
 use Rattle.disk_model.specs.Object.{object}
 use Rattle.engine_api.specs.States.{Kind}
+use Rattle.engine_api.specs.States.{EngineState}
 use Rattle.xid_recovery.specs.Pairs.{has}
 use Rattle.xid_recovery.proofs.RunLemmas.{answers_on}
 use Rattle.xid_recovery.proofs.OneLemmas.{looked, ran_looked, has_prepared, ran_committed, ran_rolled, aims_rolled, brought, reports}
@@ -59,3 +60,10 @@ returns-clause-report g c =
     c.in_ok-commit_logged.ensures.done c.len-all.ensures.ordered c.len-rolled_back.ensures.ordered c.len-all.ensures.len c.len-rolled_back.ensures.len
     (c.in_ok-told.ensures.name ∙ ap (λ (k : Kind). k.name) (ran_rolled _ _ (let e = goal.Engine-dyn g (object c.commit_logged.new.engine) in record { kind = e.kind c.commit_logged.new.engine.value; reading = e.reading c.commit_logged.new.engine.value; state = e.state c.commit_logged.new.engine.value; holds = e.holds c.commit_logged.new.engine.value }) (let e = goal.Engine-dyn g (object c.roll_back_rest.new.engine) in record { kind = e.kind c.roll_back_rest.new.engine.value; reading = e.reading c.roll_back_rest.new.engine.value; state = e.state c.roll_back_rest.new.engine.value; holds = e.holds c.roll_back_rest.new.engine.value }) _ _ _ _ _ _ _ (looked (let e = goal.Engine-dyn g (object c.args.engine.now) in record { kind = e.kind c.args.engine.now.value; reading = e.reading c.args.engine.now.value; state = e.state c.args.engine.now.value; holds = e.holds c.args.engine.now.value }) (let e = goal.Engine-dyn g (object c.prepared.new.engine) in record { kind = e.kind c.prepared.new.engine.value; reading = e.reading c.prepared.new.engine.value; state = e.state c.prepared.new.engine.value; holds = e.holds c.prepared.new.engine.value }) c.in_ok-found.found _ _ c.requires.idle c.in_ok-found.ensures.same c.in_ok-found.ensures.turns) c.in_ok-commit_logged.ensures.done c.in_ok-roll_back_rest.ensures.ran None tt tt).same.kind)
     c.in_ok-told.ensures.last c.in_ok-told.ensures.committed c.in_ok-told.ensures.rolled_back
+
+pub returns-clause-last : goal.returns-clause-last
+returns-clause-last g c = λ bound all within.
+    let begun = ap (λ (s : EngineState). s.gist.last) c.in_ok-found.ensures.turns.ok in
+    let far = c.in_ok-commit_logged.ensures.done.last bound all (omega (arith, begun, within)) in
+    let last = c.in_ok-roll_back_rest.ensures.done.last in
+    omega (arith, last, far)

@@ -4,7 +4,7 @@ use Rattle.engine_api.specs.States.{Kind}
 use Rattle.xid_recovery.specs.Recovers.{GoesWith}
 use Rattle.xid_recovery.specs.Running.{Fits}
 use Rattle.xid_recovery.proofs.RunLemmas.{ran_both}
-use Rattle.xid_recovery.proofs.OneLemmas.{begun_idle, ran_begun, goes_begun, recovers_ahead, others, recovers_err, recovers_ok, begins_outside, calls_outside, tells_call, none_behind, no_code_behind, outside_as}
+use Rattle.xid_recovery.proofs.OneLemmas.{begun_idle, ran_begun, goes_begun, recovers_ahead, others, recovers_err, recovers_ok, begins_outside, calls_outside, tells_call, none_behind, no_code_behind, outside_as, not_ahead}
 use Rattle.xid_recovery.proofs.one.recover_one.Goals as goal
 
 pub returns-in-Err-clause-recovers : goal.returns-in-Err-clause-recovers
@@ -57,3 +57,6 @@ pub returns-in-Err-bring-clause-tells : goal.returns-in-Err-bring-clause-tells
 returns-in-Err-bring-clause-tells g c =
     tells_call _ _ _ _ (Err c.in-Err-bring.fault) c.in-Err-bring.fault _ refl c.open_fault-in-Err-bring.ensures
     (none_behind (let e = goal.Engine-dyn g (object c.args.engine.now) in record { kind = e.kind c.args.engine.now.value; reading = e.reading c.args.engine.now.value; state = e.state c.args.engine.now.value; holds = e.holds c.args.engine.now.value }) (let e = goal.Engine-dyn g (object c.begin.new.engine) in record { kind = e.kind c.begin.new.engine.value; reading = e.reading c.begin.new.engine.value; state = e.state c.begin.new.engine.value; holds = e.holds c.begin.new.engine.value }) ((goal.Storage-dyn g c.args.volume.now).disk c.args.volume.now.1) ((goal.Storage-dyn g (c.args.volume.now.0, c.begin.new.volume)).disk c.begin.new.volume) (Err c.in-Err-bring.fault) c.in_default.ensures.same c.in_default.ensures.device.told c.in-Err-bring.ensures.answers)
+
+pub returns-in-Ok-clause-last : goal.returns-in-Ok-clause-last
+returns-in-Ok-clause-last g c = λ all. c.in-Ok.ensures.last c.args.logged all (not_ahead c.args.logged _ c.is_ahead.result c.is_ahead.ensures c.if-is_ahead.false)
