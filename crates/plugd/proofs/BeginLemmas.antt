@@ -1,126 +1,18 @@
--- How a session begins.
-use Rattle.std.proofs.Common.{◌≡◌, inl, inr, ⊎_elim, ℕ, ◌≤◌, ◌<◌, ◌↔◌, get_or, codes, Bool, true, false, List, [], ◌∷◌, ◌++◌, length, map, Option, Some, None, IsTrue, refl, sym, ◌∙◌, ap, subst, arith}
+-- How a run begins: its words, the engine on its shelf, and a session that has read nothing.
+use Rattle.std.proofs.Common.{◌≡◌, ℕ, ◌≤◌, ◌<◌, ◌↔◌, get_or, codes, Bool, List, [], ◌∷◌, length, map, Some, IsTrue, refl, sym, ◌∙◌, ap, subst, arith}
 use Rattle.std.proofs.lemmas.List.{append-nil}
-use Rattle.std.specs.Prelude.{string_bytes}
+use Rattle.std.specs.Prelude.{string_bytes, slice_index_or}
 use Rattle.std.specs.declared.alloc.Global.{Global}
 use Rattle.std.specs.declared.string.String.{String}
-use Rattle.disk_model.specs.Disk.{Disk, now, contents, Keeps, Only}
-use Rattle.disk_model.proofs.Moments.{weaker}
-use Rattle.row_format.specs.declared.change.Transaction.{Transaction}
-use Rattle.binlog_file.specs.Logged.{IsLogged, Holds}
-use Rattle.binlog_file.specs.Binlog.{flushed_of, end_in}
-use Rattle.binlog_file.specs.Opening.{IsSafe, OpensFor}
-use Rattle.binlog_file.proofs.UniqueLemmas.{one_logged}
-use Rattle.plugd.specs.declared.ack.Ack.{Ack}
-use Rattle.plugd.specs.declared.server.Server.{Server}
+use Rattle.disk_model.specs.Disk.{Disk}
+use Rattle.engine_api.specs.States.{Kind}
+use Rattle.engine_api.specs.Many.{Working}
 use Rattle.plugd.specs.declared.session.Session.{Session}
-use Rattle.plugd.specs.declared.xids.XidSet.{XidSet}
-use Rattle.plugd.specs.Commit.{AtRest}
-use Rattle.plugd.specs.Crash.{StandsIn, AreKept, Safe}
-use Rattle.plugd.specs.Play.{State}
-use Rattle.plugd.specs.declared.run.Status.{Status}
-use Rattle.plugd.specs.Run.{IsPlay, Begins, Ended}
 use Rattle.plugd.specs.Coordinator.{Telling}
-use Rattle.plugd.specs.Serve.{Base, Serving}
+use Rattle.plugd.specs.Run.{IsPlay, IsShelf, OnShelf}
+use Rattle.plugd.specs.Serve.{Base, IsJournal}
 use Rattle.plugd.specs.Session.{World, world, Reading}
-use Rattle.plugd.specs.Xids.{xids_of}
-use Rattle.plugd.specs.XidSet.{Knows}
 use Rattle.plugd.proofs.LineLemmas.{splits_none}
-use Rattle.plugd.proofs.SafeLemmas.{rest_logged}
-
--- a server that has played nothing
-pub record IsNew (limit : ℕ) (server : Server) : Type 0 where
-  pub acks : server.acks.items ≡ []
-  pub lines : server.lines ≡ 0
-  pub limit_is : server.limit ≡ limit
-  pub halted : server.halted ≡ false
-
--- the counts go on
-pub record Goes (start end : Disk) : Type 0 where
-  pub told : end.told ≡ start.told
-  pub later : start.calls ≤ end.calls
-  pub no_fewer : start.faults ≤ end.faults
-
-abbrev pub first_of : Server → State
-first_of server = record { line = 0; count = flushed_of server.log; len = end_in server.log; changes = []; met = None }
-
-abbrev pub base_of : Disk → List Transaction → ℕ → Server → Base
-base_of start found limit server = record { start = start; found = found; limit = limit; first = first_of server }
-
--- the opening, where the contents are told
-abbrev pub Opened : XidSet → Server → Disk → Disk → ℕ → Type 0
-Opened old server start end cut = OpensFor (λ list. Knows old (xids_of list)) (λ list. Knows server.xids (xids_of list)) start end server.log cut
-
--- and at each moment of it
-abbrev pub IsSafeOver : Disk → Disk → Type 0
-IsSafeOver start end = Keeps start end (Only 0 (now start) (IsSafe (now start 0)))
-
-began : (start end : Disk) (found : List Transaction) → IsLogged (contents start 0) found → IsSafeOver start end → Keeps start end (Only 0 (now start) (StandsIn (now start 0) found found))
-began start end found logged run =
-    weaker start end (Only 0 (now start) (IsSafe (now start 0))) (Only 0 (now start) (StandsIn (now start 0) found found))
-    (λ files p. (p.0, ⊎_elim (λ same. inl same) (λ some. inr (subst (λ (l : List Transaction). Holds l l (files 0)) (one_logged (contents start 0) some.0 found some.1 logged) some.2)) p.1)) run
-
-safe_now : (limit : ℕ) (old : XidSet) (server : Server) (start end : Disk) (cut : ℕ) → IsNew limit server → (o : Opened old server start end cut) → IsSafeOver start end
-    → Safe start o.list [] (first_of server) server.acks.items end
-safe_now limit old server start end cut new o run = record {
-  changes_are = refl;
-  count = let n = o.opens.is_log.flushed in omega (arith, n);
-  given = tt;
-  moments = subst (λ (l : List Transaction). Keeps start end (Only 0 (now start) (StandsIn (now start 0) o.list l))) (sym (append-nil o.list)) (began start end o.list o.opens.logged run);
-  acks_kept = subst (AreKept (o.list ++ []) end) (sym new.acks) tt;
-  whole = λ none. subst (IsLogged (contents end 0)) (sym (append-nil o.list)) (rest_logged server.log o.list (now end 0) o.opens.is_log);
-}
-
-at_rest : (old : XidSet) (server : Server) (start end : Disk) (cut : ℕ) → Knows old [] → (o : Opened old server start end cut) → AtRest server (o.list ++ []) end
-at_rest old server start end cut none o = subst (λ (l : List Transaction). AtRest server l end) (sym (append-nil o.list)) (record {
-  durable = record { is_log = o.opens.is_log; durable = o.opens.durable };
-  knows = o.visited [] none;
-})
-
-serving : (limit : ℕ) (server : Server) (start end : Disk) (found : List Transaction) → limit ≤ 2147483647 → IsNew limit server → Goes start end
-    → (IsTrue start.told → Safe start found [] (first_of server) server.acks.items end × AtRest server (found ++ []) end)
-    → Serving (base_of start found limit server) [] [] server end
-serving limit server start end found small new goes told = record {
-  state = first_of server;
-  limit = new.limit_is;
-  small = small;
-  line = refl;
-  stopped = record {
-    told = goes.told;
-    later = goes.later;
-    no_fewer = goes.no_fewer;
-    plays = (refl, refl);
-    numbers = ap (map (λ (a : Ack). a.number)) new.acks;
-    cause = λ some. absurd (some refl);
-    safe = λ yes. ([], (told yes).0);
-  };
-  shows = record { line = new.lines; serves = λ is. refl; halts = λ is none. let no = new.halted in cc; count = λ none. refl; len = λ none. refl };
-  rest = λ yes none. (told yes).1;
-}
-
-by_told : (b : Bool) (P : Type 0) → (b ≡ true → P) → (b ≡ false → P) → P
-by_told true P if_told if_not = if_told refl
-by_told false P if_told if_not = if_not refl
-
-not_told : {P : Type 0} (b : Bool) → b ≡ false → IsTrue b → P
-not_told b is told = absurd (let e = is in cc)
-
-pub begins : (limit : ℕ) (old : XidSet) (server : Server) (before start end : Disk) (cut : ℕ) → start ≡ before → limit ≤ 2147483647 → Knows old [] → IsNew limit server → Goes start end
-    → (IsTrue start.told → Opened old server start end cut) → (IsTrue start.told → IsSafeOver start end) → Begins limit before (λ base lines replies. Serving base lines replies server end)
-begins limit old server before start end cut same small none new goes opened run =
-    subst (λ (d : Disk). Begins limit d (λ base lines replies. Serving base lines replies server end)) same
-    (by_told start.told (Begins limit start (λ base lines replies. Serving base lines replies server end))
-    (λ told.
-    let o = opened told in (
-      base_of start o.list limit server,
-      record { start = refl; limit_is = refl; line = refl; changes = refl; met = refl; found = λ again. (o.opens.logged, o.opens.is_log.flushed, o.opens.is_log.len) },
-      serving limit server start end o.list small new goes (λ again. (safe_now limit old server start end cut new o (run told), at_rest old server start end cut none o)),
-    ))
-    (λ untold. (
-      base_of start [] limit server,
-      record { start = refl; limit_is = refl; line = refl; changes = refl; met = refl; found = λ told. not_told start.told untold told },
-      serving limit server start end [] small new goes (λ told. not_told start.told untold told),
-    )))
 
 -- it has read nothing yet
 pub fresh : {C : Type 0} {serves : Telling C} (base : Base) (start : World) (disk : Disk) (core : C) (session : Session C) → serves core base [] [] → session.core ≡ core → session.front.items ≡ [] → session.replies.items ≡ []
@@ -143,9 +35,32 @@ one_word (x ∷ []) word other bytes b low high at is from to =
     let same : bytes ≡ string_bytes x = is ∙ ap string_bytes at in
     ((λ holds. ap (λ (l : List ℕ). l ∷ []) (sym same ∙ from holds)), (λ all. to (let e = all in let one : string_bytes x ≡ codes "play" = cc in same ∙ one)))
 
--- the same run, where its last disk has another name
-pub other_end : (limit : ℕ) (words : List (String Global)) (start : World) (answer : Status) (acks : List Ack) (d₀ d₁ : Disk) (left : Option (List ℕ)) (source_faults : ℕ) (held : Option (List ℕ)) (sink_faults : ℕ) → d₁ ≡ d₀
-    → Ended limit words start answer acks (world d₁ left source_faults held sink_faults)
-    → Ended limit words start answer acks (world d₀ left source_faults held sink_faults)
-other_end limit words start answer acks d₀ d₁ left source_faults held sink_faults same ran =
-    subst (λ (d : Disk). Ended limit words start answer acks (world d left source_faults held sink_faults)) same ran
+-- there is one engine
+pub has_one : {T : Type 0} (kind_of : T → Kind) (xs : List T) → IsShelf (map kind_of xs) → length xs ≡ 1
+has_one kind_of [] one = absurd one
+has_one kind_of (x ∷ []) one = refl
+has_one kind_of (x ∷ y ∷ xs) one = absurd one
+
+-- it is JOURNAL
+pub is_journal : {T : Type 0} (kind_of : T → Kind) (xs : List T) (e : T) → IsShelf (map kind_of xs) → e ≡ slice_index_or xs 0 e → IsJournal (kind_of e)
+is_journal kind_of [] e one is = absurd one
+is_journal {T} kind_of (x ∷ []) e one is = subst (λ (v : T). IsJournal (kind_of v)) (sym is) one
+is_journal kind_of (x ∷ y ∷ xs) e one is = absurd one
+
+-- what holds of it holds on the shelf
+pub on_first : {T : Type 0} (tells : T → Working) (kind_of : T → Kind) (xs : List T) (e : T) (P : Working → Type 0) → IsShelf (map kind_of xs) → e ≡ slice_index_or xs 0 e → P (tells e) → OnShelf (map tells xs) P
+on_first tells kind_of [] e P one is p = absurd one
+on_first {T} tells kind_of (x ∷ []) e P one is p = subst (λ (v : T). P (tells v)) is p
+on_first tells kind_of (x ∷ y ∷ xs) e P one is p = absurd one
+
+-- what holds of any engine holds on the shelf
+pub on_any : {T : Type 0} (tells : T → Working) (kind_of : T → Kind) (xs : List T) (P : Working → Type 0) → IsShelf (map kind_of xs) → ((w : Working) → P w) → OnShelf (map tells xs) P
+on_any tells kind_of [] P one each = absurd one
+on_any tells kind_of (x ∷ []) P one each = each (tells x)
+on_any tells kind_of (x ∷ y ∷ xs) P one each = absurd one
+
+-- what follows for any engine follows on the shelf
+pub on_law : (engines : List Working) (P Q : Working → Type 0) → ((w : Working) → P w → Q w) → OnShelf engines P → OnShelf engines Q
+on_law [] P Q law on = absurd on
+on_law (engine ∷ []) P Q law on = law engine on
+on_law (engine ∷ other ∷ engines) P Q law on = absurd on

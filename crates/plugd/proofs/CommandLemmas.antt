@@ -10,8 +10,8 @@ use Rattle.std.proofs.Math.Logic.{⊎_elim}
 use Rattle.std.specs.Prelude.{codes, if◌then◌else◌, slice_index}
 use denote.Ref.{Bor}
 use Rattle.plugd.specs.declared.command.Command.{Command}
-use Rattle.plugd.specs.declared.command.Command.TheVariants.{Settle, Insert, Bad}
-use Rattle.plugd.specs.Command.{without_return, insert_line, insert_front, insert_back, before_text, IsShortWord, IsBigInt, IsCommand}
+use Rattle.plugd.specs.declared.command.Command.TheVariants.{Settle, Install, Create, Insert, Bad}
+use Rattle.plugd.specs.Command.{without_return, insert_line, insert_front, insert_back, before_text, install_line, create_line, IsShortWord, IsBigInt, IsCommand}
 use Rattle.plugd.specs.Line.{HasNoComma}
 use Rattle.plugd.proofs.NumberLemmas.{no_comma_printed, mag_big}
 
@@ -113,20 +113,47 @@ parts_are middle front back word r at is some front_is back_is word_is =
       sym (take-append-drop at middle) ∙ ap (λ (l : List ℕ). l ++ drop at middle) (sym front_is) ∙ ap (λ (l : List ℕ). front ++ l) (sym back_is ∙ word_is),
     )
 
+-- the line that installs differs from the one that makes the table, and from each insert
+install_not_create : install_line ≢ create_line
+install_not_create e = omega (arith, ap (λ (l : List ℕ). slice_index l 3) e)
+
+install_no_insert : (key : ℤ) (text : List ℕ) → install_line ≢ insert_line key text
+install_no_insert key text e = omega (arith, ap (λ (l : List ℕ). slice_index l 6) e)
+
+-- so does the line that makes the table
+create_no_insert : (key : ℤ) (text : List ℕ) → create_line ≢ insert_line key text
+create_no_insert key text e = omega (arith, ap (λ (l : List ℕ). slice_index l 3) e)
+
 -- two commands of one line are one
 pub command_same : (line : List ℕ) (c d : Command) → IsCommand line c → IsCommand line d → c ≡ d
 command_same line Settle Settle a b = refl
+command_same line Settle Install a b = let e : codes "settle" ≡ install_line = sym a ∙ b in cc
+command_same line Settle Create a b = let e : codes "settle" ≡ create_line = sym a ∙ b in cc
 command_same line Settle (Insert key text) a b = let e : codes "settle" ≡ insert_line key text = sym a ∙ b.0 in cc
 command_same line Settle Bad a b = absurd (b.0 a)
+command_same line Install Settle a b = let e : install_line ≡ codes "settle" = sym a ∙ b in cc
+command_same line Install Install a b = refl
+command_same line Install Create a b = absurd (install_not_create (sym a ∙ b))
+command_same line Install (Insert key text) a b = absurd (install_no_insert key text (sym a ∙ b.0))
+command_same line Install Bad a b = absurd (b.1 a)
+command_same line Create Settle a b = let e : create_line ≡ codes "settle" = sym a ∙ b in cc
+command_same line Create Install a b = absurd (install_not_create (sym b ∙ a))
+command_same line Create Create a b = refl
+command_same line Create (Insert key text) a b = absurd (create_no_insert key text (sym a ∙ b.0))
+command_same line Create Bad a b = absurd (b.2 a)
 command_same line (Insert key text) Settle a b = let e : codes "settle" ≡ insert_line key text = sym b ∙ a.0 in cc
+command_same line (Insert key text) Install a b = absurd (install_no_insert key text (sym b ∙ a.0))
+command_same line (Insert key text) Create a b = absurd (create_no_insert key text (sym b ∙ a.0))
 command_same line (Insert key text) (Insert other word) a b =
     let parts = parts_same (without_return line) (signed_decimal key ++ (before_text ++ text)) (signed_decimal key) text other word b.2 a.0 (no_comma_printed key a.2) refl b.0 in
     let keys : key ≡ other = signed_decimal_injective key other (mag_big key a.2) (mag_big other b.2) parts.0 in
     let texts : text ≡ word = parts.1 in
     cc
-command_same line (Insert key text) Bad a b = absurd (b.1 key text a.2 a.1 a.0)
+command_same line (Insert key text) Bad a b = absurd (b.3 key text a.2 a.1 a.0)
 command_same line Bad Settle a b = absurd (a.0 b)
-command_same line Bad (Insert key text) a b = absurd (a.1 key text b.2 b.1 b.0)
+command_same line Bad Install a b = absurd (a.1 b)
+command_same line Bad Create a b = absurd (a.2 b)
+command_same line Bad (Insert key text) a b = absurd (a.3 key text b.2 b.1 b.0)
 command_same line Bad Bad a b = refl
 
 -- an insert's line has at most 60 bytes
@@ -146,21 +173,25 @@ pub length_without_return : (line : List ℕ) → length line ≤ length (withou
 length_without_return line = length_by line (slice_index line (length line - 1) == 13)
 
 -- a line that is too long asks for nothing
-front_long : (front line : List ℕ) (c : Command) → 64 ≤ length front → 64 ≤ length line → IsCommand front c → IsCommand line c
+front_long : (front line : List ℕ) (c : Command) → 80 ≤ length front → 80 ≤ length line → IsCommand front c → IsCommand line c
 front_long front line Settle long all h = absurd (omega (arith, ap length h, length_without_return front))
+front_long front line Install long all h = absurd (omega (arith, ap length h, length_without_return front))
+front_long front line Create long all h = absurd (omega (arith, ap length h, length_without_return front))
 front_long front line (Insert key text) long all h = absurd (omega (arith, ap length h.0, length_insert key text h.2 h.1, length_without_return front))
 front_long front line Bad long all h = (
+  (λ e. omega (arith, ap length e, length_without_return line)),
+  (λ e. omega (arith, ap length e, length_without_return line)),
   (λ e. omega (arith, ap length e, length_without_return line)),
   (λ key text big short e. omega (arith, ap length e, length_insert key text big short, length_without_return line)),
 )
 
-split : (n : ℕ) → (n ≤ 64) ⊎ (65 ≤ n)
+split : (n : ℕ) → (n ≤ 80) ⊎ (81 ≤ n)
 split n = grind arith
 
--- the first 64 bytes of a line say what it asks for
-pub command_of_front : (line : List ℕ) (c : Command) → IsCommand (take 64 line) c → IsCommand line c
+-- the first 80 bytes of a line say what it asks for
+pub command_of_front : (line : List ℕ) (c : Command) → IsCommand (take 80 line) c → IsCommand line c
 command_of_front line c h =
     ⊎_elim
-    (λ short. subst (λ (l : List ℕ). IsCommand l c) (take_all 64 line short) h)
-    (λ long. front_long (take 64 line) line c (omega (arith, length-take 64 line)) (omega arith) h)
+    (λ short. subst (λ (l : List ℕ). IsCommand l c) (take_all 80 line short) h)
+    (λ long. front_long (take 80 line) line c (omega (arith, length-take 80 line)) (omega arith) h)
     (split (length line))

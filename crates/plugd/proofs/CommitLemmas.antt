@@ -1,104 +1,111 @@
--- What a commit spells is what it writes.
-use Rattle.std.proofs.Common.{◌≡◌, ℕ, ◌+◌, ◌^◌, ◌<◌, ◌≤◌, List, [], ◌∷◌, ◌++◌, length, Ok, sym, ◌∙◌, ap, subst, arith, IsTrue}
-use Rattle.std.specs.Prelude.{sum_by}
-use Rattle.std.specs.declared.vec.Vec.{Vec}
-use Rattle.std.specs.declared.alloc.Global.{Global}
-use Rattle.std.proofs.lemmas.List.{map-append}
-use Rattle.std.proofs.lemmas.List.Sums.{sum_by-cons}
-use Rattle.frame_codec.specs.Frame.{Event, size_of}
-use Rattle.frame_codec.specs.Chain.{chain_of, end_of}
-use Rattle.disk_model.specs.Disk.{Disk}
+-- A statement that was executed is taken to its reply.
+use Rattle.std.proofs.Common.{◌≡◌, ℕ, ◌+◌, ◌<◌, ◌≤◌, ◌^◌, List, [], ◌∷◌, length, true, Result, Ok, sym, ap, subst, arith}
+use Rattle.std.specs.Prelude.{IsErr}
+use Rattle.std.specs.declared.alloc.AllocError.{AllocError}
 use Rattle.row_format.specs.declared.change.Change.{Change}
-use Rattle.row_format.specs.declared.change.Transaction.{Transaction}
 use Rattle.row_format.specs.Changes.{AreFitChanges}
-use Rattle.binlog_events.specs.Transaction.{events_of}
-use Rattle.binlog_file.specs.declared.binlog.Binlog.{Binlog}
-use Rattle.binlog_file.specs.Binlog.{Carries, end_in}
-use Rattle.binlog_file.proofs.LoggedLemmas.{all_events_one}
-use Rattle.binlog_file.proofs.CallLemmas.{carried_size}
+use Rattle.binlog_file.specs.Binlog.{Carries}
+use Rattle.engine_api.specs.States.{EngineState}
+use Rattle.plugd.specs.declared.command.Command.{Command}
+use Rattle.plugd.specs.declared.command.Command.TheVariants.{Install}
+use Rattle.plugd.specs.declared.reply.HaltCause.{HaltCause}
 use Rattle.plugd.specs.declared.reply.Reply.{Reply}
+use Rattle.plugd.specs.declared.reply.Reply.TheVariants.{Halted}
 use Rattle.plugd.specs.declared.server.Server.{Server}
-use Rattle.plugd.specs.Play.{logged_size}
-use Rattle.plugd.specs.Xids.{xids_of, IsNextXid}
-use Rattle.plugd.specs.declared.ack.Ack.{Ack}
 use Rattle.plugd.specs.declared.xids.XidSet.{XidSet}
-use Rattle.plugd.specs.XidSet.{Knows}
-use Rattle.plugd.specs.Commit.{AtRest, Writes, LogsOne, Commits}
+use Rattle.plugd.specs.Play.{is_prepared_for, logged_size}
+use Rattle.plugd.specs.Serve.{Core}
+use Rattle.plugd.specs.Spell.{IsSameBut, with_halt}
+use Rattle.plugd.specs.Way.{Past, IsExecuted, SomeExecuted, IsToPrepare, Commits, PlaysTo, EndsAt, HaltsBy}
+use Rattle.plugd.proofs.PlainLemmas.{IsPlain}
+use Rattle.plugd.proofs.StepLemmas.{by_err}
+use Rattle.plugd.proofs.WayLemmas.{ends_now, halted_now}
+use Rattle.plugd.proofs.EndLemmas.{prepared_statement}
+use Rattle.plugd.proofs.GivenLemmas.{served_by, with_xids, like_given, like_spelt, ahead_like, Gave, given_next, given_way}
 
--- changes, as a transaction
-abbrev pub of_changes : ℕ → List Change → Transaction
-of_changes xid changes = record { xid = xid; changes = changes }
+-- what holds of each run that came to this
+abbrev pub EachExecuted : Command → List Change → Core → (Past → EngineState → Change → Type 0) → Type 0
+EachExecuted asks changes core P = (past : Past) (idle : EngineState) (it : Change) → changes ≡ it ∷ [] → IsExecuted past idle asks it past.state.given core → P past idle it
 
--- where frames end: so many bytes behind their start
-ends_behind : (at : ℕ) (events : List Event) → end_of at events ≡ at + sum_by size_of events
-ends_behind at [] = omega arith
-ends_behind at (event ∷ events) = omega (arith, ends_behind (at + size_of event) events, sum_by-cons size_of event events)
-
--- where those of a transaction end
-pub events_end : (at xid : ℕ) (changes : List Change) (size : ℕ) → ((x : ℕ) → size ≡ sum_by size_of (events_of (of_changes x changes)))
-    → (end_of at (events_of (of_changes xid changes)) ≡ at + size) × (size ≡ logged_size changes)
-events_end at xid changes size is = (omega (arith, ends_behind at (events_of (of_changes xid changes)), is xid), is 0)
-
--- the bytes that were spelt are those of the transaction
-pub spelt : (log : Binlog) (at prev xid size : ℕ) (changes : List Change) (spelling cleared : List ℕ) → at ≡ log.len → prev ≡ log.crc → xid < 2 ^ 64 → 0 < length changes → AreFitChanges changes
-    → ((x : ℕ) → size ≡ sum_by size_of (events_of (of_changes x changes))) → log.len + size ≤ 2147483647 → cleared ≡ []
-    → spelling ≡ cleared ++ chain_of prev at (events_of (of_changes xid changes)) → Carries log spelling (of_changes xid changes ∷ [])
-spelt log at prev xid size changes spelling cleared at_is prev_is small some fit sized room none is = record {
-  fit = (record { xid = small; some = some; changes = fit }, tt);
-  spelt = is ∙ ap (λ (c : List ℕ). c ++ chain_of prev at (events_of (of_changes xid changes))) none
-      ∙ ap (λ (a : ℕ). chain_of prev a (events_of (of_changes xid changes))) at_is ∙ ap (λ (p : ℕ). chain_of p log.len (events_of (of_changes xid changes))) prev_is
-      ∙ ap (chain_of log.crc log.len) (sym (all_events_one (of_changes xid changes)));
-  ends = let one = ap (end_of log.len) (all_events_one (of_changes xid changes)) in let end = events_end log.len xid changes size sized in omega (arith, one, end.0, room);
+-- it comes to this reply
+pub commits_ok : (asks : Command) (changes : List Change) (old new : Core) (reply : Reply) → EachExecuted asks changes old (λ past idle it. PlaysTo past asks reply new) → Commits asks changes old new (Ok reply)
+commits_ok asks changes old new reply each = record {
+  ok = λ past idle it one is r answer. let same : reply ≡ r = cc in subst (λ (x : Reply). PlaysTo past asks x new) same (each past idle it one is);
+  err = λ past idle it one is. tt;
 }
 
--- and so many
-pub spelt_size : (log : Binlog) (xid size : ℕ) (changes : List Change) (spelling : List ℕ) → ((x : ℕ) → size ≡ sum_by size_of (events_of (of_changes x changes)))
-    → Carries log spelling (of_changes xid changes ∷ []) → log.len + length spelling ≡ log.len + logged_size changes
-spelt_size log xid size changes spelling sized carries =
-    let end = events_end log.len xid changes size sized in
-    omega (arith, carried_size log spelling (of_changes xid changes ∷ []) carries, ap (end_of log.len) (all_events_one (of_changes xid changes)), end.0, end.1)
+-- it comes to no reply
+pub commits_err : (r : Result Reply AllocError) → IsErr r → (asks : Command) (changes : List Change) (old new : Core) → EachExecuted asks changes old (λ past idle it. EndsAt past new) → Commits asks changes old new r
+commits_err r is_err asks changes old new each =
+    by_err (λ (r : Result Reply AllocError). Commits asks changes old new r) (λ e. record {
+      ok = λ past idle it one is reply answer. cc;
+      err = λ past idle it one is. each past idle it one is;
+    }) r is_err
 
--- the server that writes: the same one, with the xid given and the transaction spelt
-abbrev pub ready : Server → XidSet → Vec Ack Global → Vec ℕ Global → Server
-ready old xids acks spelling = record { alloc = old.alloc; log = old.log; xids = xids; acks = acks; spelling = spelling; lines = old.lines; limit = old.limit; halted = old.halted }
+-- the changes can be spelt
+pub some_changes : (asks : Command) (changes : List Change) (core : Core) → SomeExecuted asks changes core → (0 < length changes) × (length changes < 2 ^ 31) × AreFitChanges changes
+some_changes asks changes core some =
+    let one = some.3 in
+    subst (λ (l : List Change). (0 < length l) × (length l < 2 ^ 31) × AreFitChanges l) (sym one) (omega arith, omega arith, (some.4.granted.fit, tt))
 
--- what the xid set did
-abbrev pub Gave : Server → XidSet → ℕ → Type 0
-Gave old xids xid = (used : List ℕ) → Knows old.xids used → IsNextXid used xid × Knows xids (used ++ xid ∷ [])
+-- the log's limit is small
+pub small_limit : (asks : Command) (changes : List Change) (core : Core) → SomeExecuted asks changes core → core.server.limit ≤ 2147483647
+small_limit asks changes core some = let f = some.4.way.ahead.fixed in let is = f.limit in let small = f.small in omega (arith, is, small)
 
-pub commits : (changes : List Change) (size : ℕ) (old new : Server) (xids : XidSet) (acks : Vec Ack Global) (spelling : Vec ℕ Global) (reply : Reply) (start end : Disk) (xid : ℕ)
-    → Writes (ready old xids acks spelling) new reply start end → acks.items ≡ old.acks.items → end_in old.log + logged_size changes ≤ old.limit
-    → ((x : ℕ) → size ≡ sum_by size_of (events_of (of_changes x changes))) → Carries old.log spelling.items (of_changes xid changes ∷ []) → Gave old xids xid → Commits changes old new (Ok reply) start end
-commits changes size old new xids acks spelling reply start end xid w same has sized carries gave = record {
-  same = record { lines = w.same.lines; limit = w.same.limit };
-  counts = w.counts;
-  spent = λ is. absurd (w.not_spent (let e = is in cc));
-  done = λ number is. let d = w.done number (let e = is in cc) in (
-    has,
-    record {
-      number_is = (d.0).number_is;
-      counted = (d.0).counted;
-      acks = (d.0).acks ∙ ap (λ (l : List Ack). l ++ (record { number = number; call = end.calls }) ∷ []) same;
-      serving = (d.0).serving;
-    },
-    d.1 ∙ spelt_size old.log xid size changes spelling.items sized carries,
-    λ list told rest. (
-      logs list told rest,
-      record {
-        durable = d.2 list (of_changes xid changes) told carries rest.durable;
-        knows = subst (λ (set : XidSet). Knows set (xids_of (list ++ of_changes xid changes ∷ []))) (sym w.xids)
-            (subst (Knows xids) (sym (map-append (λ (t : Transaction). t.xid) list (of_changes xid changes ∷ []))) (gave (xids_of list) rest.knows).1);
-      },
-    ),
-  );
-  halted = λ is. let h = w.halted (let e = is in cc) in (has, h.0, h.1 ∙ same, h.2, logs);
-  not_bad = λ line is. absurd (w.not_bad line (let e = is in cc));
-  memory = tt;
+-- no xid was left
+pub ends_ungiven : (asks : Command) (changes : List Change) (core : Core) (xids : XidSet) → EachExecuted asks changes core (λ past idle it. EndsAt past (served_by (with_xids xids core.server) core))
+ends_ungiven asks changes core xids past idle it one is =
+    ends_now past (served_by (with_xids xids core.server) core) (ahead_like past core (with_xids xids core.server) (like_given xids core.server) is.way.ahead)
+
+-- it was not spelt
+pub ends_unspelt : (asks : Command) (changes : List Change) (core : Core) (xids : XidSet) (server : Server) → IsSameBut (with_xids xids core.server) server → EachExecuted asks changes core (λ past idle it. EndsAt past (served_by server core))
+ends_unspelt asks changes core xids server same past idle it one is =
+    ends_now past (served_by server core) (ahead_like past core server (like_spelt xids core.server server same) is.way.ahead)
+
+-- it is to be prepared under the xid that was given
+pub to_prepare : (asks : Command) (changes : List Change) (core : Core) (xids : XidSet) (xid : ℕ) (server : Server) → is_prepared_for asks ≡ true → Gave core.server.xids xids xid → IsSameBut (with_xids xids core.server) server
+    → EachExecuted asks changes core (λ past idle it. IsToPrepare past idle asks it xid (served_by server core))
+to_prepare asks changes core xids xid server touches gave same past idle it one is = record {
+  touches = touches;
+  executed = record { way = given_way past idle core xids xid server is.way gave same; granted = is.granted; state = is.state };
+  next = given_next past idle core xids xid is.way gave;
 }
-  where
-    logs : (list : List Transaction) → IsTrue start.told → AtRest old list start → LogsOne changes old list start end
-    logs list told rest = record {
-      xid = xid;
-      next = (gave (xids_of list) rest.knows).0;
-      moments = w.moments list (of_changes xid changes) told carries rest.durable;
-    }
+
+-- it is spelt as the run knows it
+pub spelt_now : (changes : List Change) (it : Change) (xid : ℕ) (server new : Server) → changes ≡ it ∷ [] → new ≡ server → Carries server.log server.spelling.items ((record { xid = xid; changes = changes }) ∷ [])
+    → Carries new.log new.spelling.items ((record { xid = xid; changes = it ∷ [] }) ∷ [])
+spelt_now changes it xid server new one same carries =
+    subst (λ (s : Server). Carries s.log s.spelling.items ((record { xid = xid; changes = it ∷ [] }) ∷ [])) (sym same)
+    (subst (λ (l : List Change). Carries server.log server.spelling.items ((record { xid = xid; changes = l }) ∷ [])) one carries)
+
+-- the log has room for it
+pub room_now : (asks : Command) (changes : List Change) (core : Core) → core.server.log.len + logged_size changes ≤ core.server.limit → EachExecuted asks changes core (λ past idle it. past.state.len + logged_size (it ∷ []) ≤ past.base.limit)
+room_now asks changes core fits past idle it one is =
+    let limit = is.way.ahead.fixed.limit in
+    let len = is.way.len in
+    omega (arith, fits, limit, len, ap logged_size one)
+
+-- the log has none
+pub spent_now : (asks : Command) (changes : List Change) (core : Core) → core.server.limit < core.server.log.len + logged_size changes → EachExecuted asks changes core (λ past idle it. past.base.limit < past.state.len + logged_size (it ∷ []))
+spent_now asks changes core spent past idle it one is =
+    let limit = is.way.ahead.fixed.limit in
+    let len = is.way.len in
+    omega (arith, spent, limit, len, ap logged_size one)
+
+-- it is halted before anything was logged
+pub halted_as : (past : Past) (core : Core) (cause : HaltCause) (asks : Command) (server : Server) (reply : Reply) → is_prepared_for asks ≡ true → server ≡ with_halt cause core.server → reply ≡ Halted cause
+    → HaltsBy past core cause → PlaysTo past asks reply (served_by server core)
+halted_as past core cause asks server reply touches server_is reply_is by =
+    subst (λ (r : Reply). PlaysTo past asks r (served_by server core)) (sym reply_is)
+    (subst (λ (s : Server). PlaysTo past asks (Halted cause) (served_by s core)) (sym server_is)
+    (halted_now past core cause asks (prepared_statement asks touches) by))
+
+-- an INSTALL has its xid
+pub plain_given : (changes : List Change) (core : Core) (xids : XidSet) (xid : ℕ) (server : Server) → Gave core.server.xids xids xid → IsSameBut (with_xids xids core.server) server
+    → EachExecuted Install changes core (λ past idle it. IsPlain past idle it xid (served_by server core))
+plain_given changes core xids xid server gave same past idle it one is = record {
+  way = given_way past idle core xids xid server is.way gave same;
+  granted = is.granted;
+  next = given_next past idle core xids xid is.way gave;
+  state = is.state;
+}

@@ -41,23 +41,23 @@ pub splits_few : (taken : List ℕ) (lines : List (List ℕ)) (rest : List ℕ) 
 splits_few taken lines rest is = let few = few_lines lines in let size = length-append (joined lines) rest in omega (arith, few, size, ap length is.spelt)
 
 -- the first bytes that are kept
-pub front_short : (front rest : List ℕ) (byte : ℕ) → front ≡ take 64 rest → length front < 64 → front ++ byte ∷ [] ≡ take 64 (rest ++ byte ∷ [])
+pub front_short : (front rest : List ℕ) (byte : ℕ) → front ≡ take 80 rest → length front < 80 → front ++ byte ∷ [] ≡ take 80 (rest ++ byte ∷ [])
 front_short front rest byte is short =
-    let some : length rest < 64 = ⊎_elim (λ lt. lt) (λ ge. absurd (let size = length-take-le 64 rest ge in omega (arith, short, ap length is, size))) (split (length rest) 64) in
-    ap (λ (l : List ℕ). l ++ byte ∷ []) (is ∙ take_all 64 rest (omega (arith, some))) ∙ sym (take_all 64 (rest ++ byte ∷ []) (omega (arith, some, length-append rest (byte ∷ []))))
+    let some : length rest < 80 = ⊎_elim (λ lt. lt) (λ ge. absurd (let size = length-take-le 80 rest ge in omega (arith, short, ap length is, size))) (split (length rest) 80) in
+    ap (λ (l : List ℕ). l ++ byte ∷ []) (is ∙ take_all 80 rest (omega (arith, some))) ∙ sym (take_all 80 (rest ++ byte ∷ []) (omega (arith, some, length-append rest (byte ∷ []))))
   where
     split : (a b : ℕ) → (a < b) ⊎ (b ≤ a)
     split a b = grind arith
 
-pub front_full : (front rest : List ℕ) (byte : ℕ) → front ≡ take 64 rest → 64 ≤ length front → front ≡ take 64 (rest ++ byte ∷ [])
+pub front_full : (front rest : List ℕ) (byte : ℕ) → front ≡ take 80 rest → 80 ≤ length front → front ≡ take 80 (rest ++ byte ∷ [])
 front_full front rest byte is long =
-    let size : 64 ≤ length rest = ⊎_elim (λ lt. absurd (omega (arith, lt, long, ap length (is ∙ take_all 64 rest (omega (arith, lt)))))) (λ ge. ge) (split (length rest) 64) in
-    is ∙ sym (take-append-le 64 rest (byte ∷ []) size)
+    let size : 80 ≤ length rest = ⊎_elim (λ lt. absurd (omega (arith, lt, long, ap length (is ∙ take_all 80 rest (omega (arith, lt)))))) (λ ge. ge) (split (length rest) 80) in
+    is ∙ sym (take-append-le 80 rest (byte ∷ []) size)
   where
     split : (a b : ℕ) → (a < b) ⊎ (b ≤ a)
     split a b = grind arith
 
-pub take_none : (rest : List ℕ) → [] ≡ take 64 rest → rest ≡ []
+pub take_none : (rest : List ℕ) → [] ≡ take 80 rest → rest ≡ []
 take_none [] is = refl
 take_none (x ∷ rest) is = let e = is in cc
 

@@ -123,7 +123,7 @@ closed {serves = serves} {rests = rests} ends old new result w some plays = reco
   where
     -- the line that is open is not empty
     open_some : {base : Base} {taken spoken : List ℕ} → (s : Standing serves base taken spoken old) → s.rest ≡ [] → ⊥
-    open_some s none = omega (arith, some, ap length (s.front ∙ ap (λ (l : List ℕ). take 64 l) none))
+    open_some s none = omega (arith, some, ap length (s.front ∙ ap (λ (l : List ℕ). take 80 l) none))
 
 pub closed_none : {C : Type 0} {serves rests : Telling C} (ends : MayRest serves rests) (session : Session C) (held : Option (List ℕ)) (faults : ℕ) → length session.front.items ≡ 0
     → Closes serves rests session session (Ok tt) (wrote held faults held faults)

@@ -14,7 +14,7 @@ pub last_put : (rest : ℕ) (tail : List ℕ) → rest < 10 → (48 + rest) ∷ 
 last_put rest tail one = ap (λ (l : List ℕ). l ++ tail) (sym (decimal_digit rest one))
 
 -- there is room for one more while digits are left
-pub room_left : (rest number : ℕ) (tail start : List ℕ) → rest < 2 ^ 64 → number < 2 ^ 64 → decimal rest ++ tail ≡ decimal number ++ start → 20 + length start ≤ 29 → length tail < 29
+pub room_left : (rest number : ℕ) (tail start : List ℕ) → rest < 2 ^ 64 → number < 2 ^ 64 → decimal rest ++ tail ≡ decimal number ++ start → 20 + length start ≤ 37 → length tail < 37
 room_left rest number tail start fits small same room =
     let one : 0 < length (decimal rest) = decimal_nonempty rest fits in
     let most : length (decimal number) ≤ 20 = length-decimal-le 20 number (omega arith) (omega arith) small in
@@ -22,7 +22,7 @@ room_left rest number tail start fits small same room =
     omega (arith, one, most, all, length-append (decimal rest) tail, length-append (decimal number) start)
 
 -- there is room for the front
-pub room_before : (front : List ℕ) (number : ℕ) (none feed digits : List ℕ) → number < 2 ^ 64 → length front ≤ 8 → none ≡ [] → feed ≡ 10 ∷ none → digits ≡ decimal number ++ feed → length front + length digits ≤ 29
+pub room_before : (front : List ℕ) (number : ℕ) (none feed digits : List ℕ) → number < 2 ^ 64 → length front ≤ 16 → none ≡ [] → feed ≡ 10 ∷ none → digits ≡ decimal number ++ feed → length front + length digits ≤ 37
 room_before front number none feed digits small short a b e =
     let most : length (decimal number) ≤ 20 = length-decimal-le 20 number (omega arith) (omega arith) small in
     omega (arith, short, most, ap length a, ap length b, ap length e, length-append (decimal number) feed)

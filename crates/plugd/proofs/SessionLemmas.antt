@@ -91,7 +91,7 @@ starved_at base taken spoken old new s byte halts same = record {
 
 -- a byte of the open line
 pub byte_taken : {C : Type 0} {serves : Telling C} (base : Base) (taken spoken : List ℕ) (old new : Session C) (s : Standing serves base taken spoken old) (byte : ℕ) → byte ≢ 10
-    → serves new.core base s.lines s.replies → new.replies.items ≡ old.replies.items → new.front.items ≡ take 64 (s.rest ++ byte ∷ []) → Standing serves base (taken ++ byte ∷ []) spoken new
+    → serves new.core base s.lines s.replies → new.replies.items ≡ old.replies.items → new.front.items ≡ take 80 (s.rest ++ byte ∷ []) → Standing serves base (taken ++ byte ∷ []) spoken new
 byte_taken base taken spoken old new s byte not serving same front = record {
   lines = s.lines;
   rest = s.rest ++ byte ∷ [];

@@ -1,34 +1,110 @@
--- Which changes a line asks for. (This project.)
-use Rattle.std.specs.Prelude.{◌≡◌, ℕ, ℤ, List, [], ◌∷◌, Option, Some, None, true, false, codes}
+-- What a command asks for, and why it is refused. (This project; the refusals are those of `sql_value`.)
+use Rattle.std.specs.Prelude.{ℕ, ℤ, List, [], ◌∷◌, Option, Some, None, Bool, true, false, cond, ◌||◌, nat_le, is_some, codes}
+use Rattle.sql_value.specs.declared.value.Value.{Value}
 use Rattle.sql_value.specs.declared.value.Value.TheVariants.{Int, Text}
+use Rattle.sql_value.specs.declared.refusal.Refusal.{Refusal}
+use Rattle.sql_value.specs.declared.refusal.Refusal.TheVariants.{NoSuchTable, TableExists, PluginInstalled, UnknownEngine, DuplicateEntry, TableFull}
 use Rattle.row_format.specs.declared.schema.Kind.TheVariants.{BigInt, VarChar}
 use Rattle.row_format.specs.declared.schema.Column.{Column}
-use Rattle.row_format.specs.declared.change.TableMap.{TableMap}
+use Rattle.row_format.specs.declared.schema.Schema.{Schema}
 use Rattle.row_format.specs.declared.change.Change.{Change}
 use Rattle.row_format.specs.declared.change.Change.TheVariants as change
+use Rattle.row_format.specs.Schemas.{same_schema}
+use Rattle.row_format.specs.Rows.{row_refusal, first_of_two}
+use Rattle.log_tables.specs.declared.table.Table.{Table}
+use Rattle.log_tables.specs.Tables.{table_named}
+use Rattle.log_tables.specs.Changes.{after_change}
+use Rattle.engine_api.specs.Live.{live_bytes, live_limit, schema_found, insert_into, is_taken_in}
 use Rattle.plugd.specs.declared.command.Command.{Command}
-use Rattle.plugd.specs.declared.command.Command.TheVariants.{Insert}
-use Rattle.plugd.specs.Command.{IsCommand}
+use Rattle.plugd.specs.declared.command.Command.TheVariants.{Install, Create, Insert}
 
--- the columns of the given table
-abbrev pub given_columns : List Column
-given_columns =
+-- the name of the one engine
+abbrev pub engine_name : List ℕ
+engine_name = codes "JOURNAL"
+
+-- the name of the one table
+abbrev pub table_name : List ℕ
+table_name = codes "t"
+
+-- the columns of the table: `k BIGINT PRIMARY KEY, v VARCHAR(10)`
+abbrev pub table_columns : List Column
+table_columns =
     (record { name = codes "k"; kind = BigInt; nullable = false })
     ∷ (record { name = codes "v"; kind = VarChar 10; nullable = true }) ∷ []
 
--- the given table: `t (k BIGINT PRIMARY KEY, v VARCHAR(10))`
-abbrev pub given_map : TableMap
-given_map = record { table = codes "t"; schema = record { columns = given_columns; key = Some 0 } }
+-- its schema
+abbrev pub table_schema : Schema
+table_schema = record { columns = table_columns; key = Some 0 }
 
--- the insert of a row into it
-abbrev pub insert_of : ℤ → List ℕ → Change
-insert_of key text = change.Insert given_map (Int key ∷ Text text ∷ [])
+-- the row of a key and a text
+abbrev pub row_of : ℤ → List ℕ → List Value
+row_of key text = Int key ∷ Text text ∷ []
 
--- the changes that a command asks for, where it asks for some
-abbrev pub asked_by : Command → Option (List Change)
-asked_by (Insert key text) = Some (insert_of key text ∷ [])
-asked_by _ = None
+-- What is there: whether the log has made the table, whether it has installed the engine, and the tables that the engine has.
+pub record Catalog : Type 0 where
+  pub made : Bool
+  pub installed : Bool
+  pub live : List Table
 
--- the line asks for these changes
-abbrev pub Asks : List ℕ → List Change → Type 0
-Asks line changes = (command : Command) × IsCommand line command × (asked_by command ≡ Some changes)
+-- the change that a command makes, where it makes one
+abbrev pub change_by : Command → Catalog → Option Change
+change_by Install here = Some (change.Install engine_name)
+change_by Create here = Some (change.Create table_name engine_name table_schema)
+change_by (Insert key text) here = insert_into table_name (schema_found (table_named table_name here.live)) (row_of key text)
+change_by _ here = None
+
+-- the tables after a change, where there is one
+abbrev pub after_some : Option Change → List Table → List Table
+after_some None live = live
+after_some (Some it) live = after_change it live
+
+-- what is there after a command
+abbrev pub after_command : Command → Catalog → Catalog
+after_command Install here = record { made = here.made; installed = true; live = here.live }
+after_command Create here = record { made = true; installed = here.installed; live = after_some (change_by Create here) here.live }
+after_command (Insert key text) here = record { made = here.made; installed = here.installed; live = after_some (change_by (Insert key text) here) here.live }
+after_command _ here = here
+
+-- a refusal, unless so
+abbrev pub refused_unless : Bool → Refusal → Option Refusal → Option Refusal
+refused_unless true refusal rest = rest
+refused_unless false refusal rest = Some refusal
+
+-- the engine's live bytes may not pass their limit
+abbrev pub full_unless_room : List Table → Option Refusal
+full_unless_room live = refused_unless (nat_le (live_bytes live) live_limit) TableFull None
+
+-- A row for a table that the engine has, or has not, or has with another schema: it is no row for it, or its key is there, or the engine
+-- is full.
+abbrev pub insert_refusal : Option Table → List Value → List Table → Option Refusal
+insert_refusal None row after = Some NoSuchTable
+insert_refusal (Some table) row after =
+    refused_unless (same_schema table.definition.schema table_schema) NoSuchTable
+    (first_of_two (row_refusal table.definition.schema row) (cond (is_taken_in (Some table) row) (Some DuplicateEntry) (full_unless_room after)))
+
+-- why a CREATE is refused before the engine is asked, if it is
+abbrev pub create_refusal : Bool → Bool → Option Schema → Option Refusal
+create_refusal made installed live = cond (made || is_some live) (Some TableExists) (refused_unless installed UnknownEngine None)
+
+-- why an INSERT is, whatever its row is
+abbrev pub table_refusal : Bool → Bool → Option Schema → Option Refusal
+table_refusal made installed None = refused_unless made NoSuchTable (refused_unless installed UnknownEngine (Some NoSuchTable))
+table_refusal made installed (Some schema) =
+    refused_unless made NoSuchTable (refused_unless installed UnknownEngine (refused_unless (same_schema schema table_schema) NoSuchTable None))
+
+-- Why a command is refused, if it is. INSTALL: the engine is installed. CREATE: the table is there; else the engine is not installed; else
+-- the engine is full. INSERT: there is no table; else its engine is not installed; else as the engine says.
+abbrev pub refusal_of : Command → Catalog → Option Refusal
+refusal_of Install here = cond here.installed (Some PluginInstalled) None
+refusal_of Create here =
+    cond (here.made || is_some (table_named table_name here.live)) (Some TableExists)
+    (refused_unless here.installed UnknownEngine (full_unless_room (after_command Create here).live))
+refusal_of (Insert key text) here =
+    refused_unless here.made NoSuchTable
+    (refused_unless here.installed UnknownEngine (insert_refusal (table_named table_name here.live) (row_of key text) (after_command (Insert key text) here).live))
+refusal_of _ here = None
+
+-- how many rows a command counts
+abbrev pub count_of : Command → ℕ
+count_of (Insert key text) = 1
+count_of _ = 0

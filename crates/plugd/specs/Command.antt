@@ -3,7 +3,7 @@ use Rattle.std.specs.Prelude.{◌≡◌, ◌≢◌, ◌≤◌, ◌<◌, ◌-◌,
 use Rattle.std.specs.Fmt.{signed_decimal}
 use Rattle.std.specs.Char.{IsAsciiAlphanumeric}
 use Rattle.plugd.specs.declared.command.Command.{Command}
-use Rattle.plugd.specs.declared.command.Command.TheVariants.{Settle, Insert, Bad}
+use Rattle.plugd.specs.declared.command.Command.TheVariants.{Settle, Install, Create, Insert, Bad}
 
 -- the line without one carriage return at its end
 abbrev pub without_return : List ℕ → List ℕ
@@ -42,8 +42,18 @@ IsInsert line key text = (line ≡ insert_line key text) × IsShortWord text × 
 abbrev pub IsNoInsert : List ℕ → Type 0
 IsNoInsert line = (key : ℤ) (text : List ℕ) → IsBigInt key → IsShortWord text → line ≢ insert_line key text
 
+-- the line that asks for the engine to be installed
+abbrev pub install_line : List ℕ
+install_line = codes "@1 INSTALL PLUGIN JOURNAL SONAME 'ha_journal.so'"
+
+-- the line that asks for the table to be made
+abbrev pub create_line : List ℕ
+create_line = codes "@1 CREATE TABLE t (k BIGINT PRIMARY KEY, v VARCHAR(10)) ENGINE = JOURNAL"
+
 -- the line asks for this
 abbrev pub IsCommand : List ℕ → Command → Type 0
 IsCommand line Settle = without_return line ≡ codes "settle"
+IsCommand line Install = without_return line ≡ install_line
+IsCommand line Create = without_return line ≡ create_line
 IsCommand line (Insert key text) = IsInsert (without_return line) key text
-IsCommand line Bad = (without_return line ≢ codes "settle") × IsNoInsert (without_return line)
+IsCommand line Bad = (without_return line ≢ codes "settle") × (without_return line ≢ install_line) × (without_return line ≢ create_line) × IsNoInsert (without_return line)

@@ -1,5 +1,7 @@
 -- What the layers above a coordinator know of it. (This project.)
 use Rattle.std.specs.Prelude.{◌<◌, ℕ, List, length}
+use Rattle.engine_api.specs.Calls.{IsSame}
+use Rattle.volume_rules.specs.Readers.{Reader}
 use Rattle.plugd.specs.declared.reply.Reply.{Reply}
 use Rattle.plugd.specs.Serve.{Base}
 
@@ -14,3 +16,7 @@ GoesOn serves = (base : Base) × (lines : List (List ℕ)) × (replies : List Re
 -- what goes on can be ended
 abbrev pub MayRest : {C : Type 0} → Telling C → Telling C → Type 0
 MayRest {C} serves rests = (core : C) (base : Base) (lines : List (List ℕ)) (replies : List Reply) → serves core base lines replies → rests core base lines replies
+
+-- the same engine, with the same reading of its files
+abbrev pub SameReader : Reader → Reader → Type 0
+SameReader old new = IsSame old.kind new.kind old.reading new.reading

@@ -1,13 +1,25 @@
 -- What playing lines does: each line's reply, and the state that it leaves. (This project.)
-use Rattle.std.specs.Prelude.{◌≡◌, ◌<◌, ◌≤◌, ◌+◌, ℕ, List, [], ◌∷◌, ◌++◌, Option, Some, None, sum_by}
+use Rattle.std.specs.Prelude.{◌≡◌, ◌<◌, ◌≤◌, ◌+◌, ℕ, List, [], ◌∷◌, ◌++◌, Option, Some, None, Bool, true, false, IsTrue, sum_by}
 use Rattle.frame_codec.specs.Frame.{size_of}
+use Rattle.sql_value.specs.declared.refusal.Refusal.{Refusal}
+use Rattle.sql_value.specs.declared.refusal.Refusal.TheVariants.{TableFull, LogSpent}
 use Rattle.row_format.specs.declared.change.Change.{Change}
+use Rattle.row_format.specs.declared.change.Transaction.{Transaction}
 use Rattle.binlog_events.specs.Transaction.{events_of}
+use Rattle.plugd.specs.declared.command.Command.{Command}
 use Rattle.plugd.specs.declared.command.Command.TheVariants as command
 use Rattle.plugd.specs.declared.reply.Reply.{Reply}
-use Rattle.plugd.specs.declared.reply.Reply.TheVariants.{Done, LogSpent, Halted, BadLine}
+use Rattle.plugd.specs.declared.reply.HaltCause.{HaltCause}
+use Rattle.plugd.specs.declared.reply.Reply.TheVariants.{Done, Refused, Halted, BadLine}
 use Rattle.plugd.specs.Command.{IsCommand}
-use Rattle.plugd.specs.Asked.{Asks}
+use Rattle.plugd.specs.Asked.{Catalog, change_by, after_command, refusal_of, count_of}
+use Rattle.plugd.specs.Xids.{IsNextXid}
+
+-- what a run keeps to: how long the log may get, whether contents are told, and the xids that the opening found
+pub record Rules : Type 0 where
+  pub limit : ℕ
+  pub told : Bool
+  pub found : List ℕ
 
 -- where a run stands between two lines
 pub record State : Type 0 where
@@ -16,57 +28,106 @@ pub record State : Type 0 where
   -- how many transactions the log has, and how many bytes
   pub count : ℕ
   pub len : ℕ
-  -- the changes of each transaction that was logged since the opening
-  pub changes : List (List Change)
-  -- those of the transaction at which the device failed: from then on the run is halted
-  pub met : Option (List Change)
+  pub catalog : Catalog
+  -- the xids that were given since the opening, those of transactions that were then refused too
+  pub given : List ℕ
+  -- the transactions that were logged since the opening
+  pub asked : List Transaction
+  -- why the run is halted, if it is; and the transaction at which that happened, if it may be in the log
+  pub halted : Option HaltCause
+  pub met : Option Transaction
 
 -- one line more, and nothing else
 abbrev pub next_line : State → State
-next_line state = record { line = state.line + 1; count = state.count; len = state.len; changes = state.changes; met = state.met }
+next_line s = record { line = s.line + 1; count = s.count; len = s.len; catalog = s.catalog; given = s.given; asked = s.asked; halted = s.halted; met = s.met }
+
+-- one line more, and these xids were given by then
+abbrev pub with_given : List ℕ → State → State
+with_given given s = record { line = s.line + 1; count = s.count; len = s.len; catalog = s.catalog; given = given; asked = s.asked; halted = s.halted; met = s.met }
 
 -- how many bytes the log needs for a transaction of these changes
 abbrev pub logged_size : List Change → ℕ
 logged_size changes = sum_by size_of (events_of (record { xid = 0; changes = changes }))
 
 -- one transaction more
-abbrev pub logged : List Change → State → State
-logged changes state = record { line = state.line + 1; count = state.count + 1; len = state.len + logged_size changes; changes = state.changes ++ changes ∷ []; met = None }
+abbrev pub logged : Command → Transaction → State → State
+logged asks t s = record { line = s.line + 1; count = s.count + 1; len = s.len + logged_size t.changes; catalog = after_command asks s.catalog; given = s.given ++ t.xid ∷ []; asked = s.asked ++ t ∷ []; halted = None; met = None }
 
--- the device failed at a transaction
-abbrev pub halted_at : List Change → State → State
-halted_at changes state = record { line = state.line + 1; count = state.count; len = state.len; changes = state.changes; met = Some changes }
+-- it is halted, at a transaction that may be in the log, or before there was one
+abbrev pub halted_at : HaltCause → Option Transaction → State → State
+halted_at cause met s = record { line = s.line + 1; count = s.count; len = s.len; catalog = s.catalog; given = s.given; asked = s.asked; halted = Some cause; met = met }
 
--- one line: what it asks for tells its reply and the next state, but that the device may fail
-pub data Turn (limit : ℕ) (line : List ℕ) (before : State) (replies : List Reply) (after : State) : Type 0 where
+-- the next xid, where contents are told
+abbrev pub IsNextGiven : Rules → State → ℕ → Type 0
+IsNextGiven rules s xid = IsTrue rules.told → IsNextXid (rules.found ++ s.given) xid
+
+-- the command makes this change
+abbrev pub Makes : Command → State → Change → Type 0
+Makes asks s it = change_by asks s.catalog ≡ Some it
+
+-- a transaction by the rules: of the one change that the command makes, under the next xid
+pub record IsAskedBy (rules : Rules) (s : State) (asks : Command) (t : Transaction) : Type 0 where
+  pub change : Change
+  pub made : Makes asks s change
+  pub changes : t.changes ≡ change ∷ []
+  pub xid : IsNextGiven rules s t.xid
+
+-- the command is a statement
+abbrev pub IsStatement : Command → Type 0
+IsStatement command.Settle = ⊥
+IsStatement command.Bad = ⊥
+IsStatement _ = Unit {0}
+
+-- the command is prepared in the engine: INSTALL is prepared nowhere
+abbrev pub is_prepared_for : Command → Bool
+is_prepared_for command.Create = true
+is_prepared_for (command.Insert key text) = true
+is_prepared_for _ = false
+
+-- a statement that is played while the run is not halted
+pub record IsPlayed (line : List ℕ) (asks : Command) (s : State) : Type 0 where
+  pub asks_so : IsCommand line asks
+  pub statement : IsStatement asks
+  pub serves : s.halted ≡ None
+
+-- one line: what it asks for tells its reply and the next state, but that a fault may halt the run
+pub data Turn (rules : Rules) (line : List ℕ) (before : State) (replies : List Reply) (after : State) : Type 0 where
   -- `settle` means nothing
-  settles : IsCommand line command.Settle → replies ≡ [] → after ≡ next_line before → Turn limit line before replies after
+  settles : IsCommand line command.Settle → replies ≡ [] → after ≡ next_line before → Turn rules line before replies after
   -- any line that is not known
-  bad : IsCommand line command.Bad → replies ≡ BadLine (before.line + 1) ∷ [] → after ≡ next_line before → Turn limit line before replies after
-  -- the log would pass its limit: nothing is appended
-  spent : (changes : List Change) → Asks line changes → before.met ≡ None → limit < before.len + logged_size changes
-      → replies ≡ LogSpent ∷ [] → after ≡ next_line before → Turn limit line before replies after
-  -- it was logged, and is durable
-  logs : (changes : List Change) → Asks line changes → before.met ≡ None → before.len + logged_size changes ≤ limit
-      → replies ≡ Done (before.count + 1) ∷ [] → after ≡ logged changes before → Turn limit line before replies after
-  -- the device failed
-  fails : (changes : List Change) → Asks line changes → before.met ≡ None → before.len + logged_size changes ≤ limit
-      → replies ≡ Halted ∷ [] → after ≡ halted_at changes before → Turn limit line before replies after
-  -- the device failed at an earlier line
-  halts : (changes met : List Change) → Asks line changes → before.met ≡ Some met
-      → replies ≡ Halted ∷ [] → after ≡ next_line before → Turn limit line before replies after
+  bad : IsCommand line command.Bad → replies ≡ BadLine (before.line + 1) ∷ [] → after ≡ next_line before → Turn rules line before replies after
+  -- it is refused, and nothing is done
+  refused : (asks : Command) → IsPlayed line asks before → (refusal : Refusal) → refusal_of asks before.catalog ≡ Some refusal
+      → replies ≡ Refused refusal ∷ [] → after ≡ next_line before → Turn rules line before replies after
+  -- the engine's journal has no room for it: it is rolled back
+  full : (asks : Command) → IsPlayed line asks before → refusal_of asks before.catalog ≡ None → IsTrue (is_prepared_for asks) → (xid : ℕ) → IsNextGiven rules before xid
+      → replies ≡ Refused TableFull ∷ [] → after ≡ with_given (before.given ++ xid ∷ []) before → Turn rules line before replies after
+  -- the log would pass its limit: it is rolled back where it was prepared
+  spent : (asks : Command) → IsPlayed line asks before → refusal_of asks before.catalog ≡ None → (it : Change) → Makes asks before it → (xid : ℕ) → IsNextGiven rules before xid
+      → rules.limit < before.len + logged_size (it ∷ []) → replies ≡ Refused LogSpent ∷ [] → after ≡ with_given (before.given ++ xid ∷ []) before → Turn rules line before replies after
+  -- it was logged, is durable and committed
+  logs : (asks : Command) → IsPlayed line asks before → refusal_of asks before.catalog ≡ None → (t : Transaction) → IsAskedBy rules before asks t
+      → before.len + logged_size t.changes ≤ rules.limit → replies ≡ Done (count_of asks) (before.count + 1) ∷ [] → after ≡ logged asks t before → Turn rules line before replies after
+  -- it is halted before anything was logged
+  fails : (asks : Command) → IsPlayed line asks before → (cause : HaltCause) → replies ≡ Halted cause ∷ [] → after ≡ halted_at cause None before → Turn rules line before replies after
+  -- it is halted at a transaction that may be in the log
+  fails_at : (asks : Command) → IsPlayed line asks before → refusal_of asks before.catalog ≡ None → (t : Transaction) → IsAskedBy rules before asks t
+      → before.len + logged_size t.changes ≤ rules.limit → (cause : HaltCause) → replies ≡ Halted cause ∷ [] → after ≡ halted_at cause (Some t) before → Turn rules line before replies after
+  -- it was halted at an earlier line
+  halts : (asks : Command) → IsCommand line asks → IsStatement asks → (cause : HaltCause) → before.halted ≡ Some cause
+      → replies ≡ Halted cause ∷ [] → after ≡ next_line before → Turn rules line before replies after
 
 -- these lines, one after the other
-abbrev pub Plays : ℕ → State → List (List ℕ) → List Reply → State → Type 0
-Plays limit before [] replies after = (replies ≡ []) × (after ≡ before)
-Plays limit before (line ∷ lines) replies after =
+abbrev pub Plays : Rules → State → List (List ℕ) → List Reply → State → Type 0
+Plays rules before [] replies after = (replies ≡ []) × (after ≡ before)
+Plays rules before (line ∷ lines) replies after =
     (first : List Reply) × (rest : List Reply) × (between : State)
-    × Turn limit line before first between × Plays limit between lines rest after × (replies ≡ first ++ rest)
+    × Turn rules line before first between × Plays rules between lines rest after × (replies ≡ first ++ rest)
 
 -- the numbers that replies tell
 abbrev pub numbers_of : List Reply → List ℕ
 numbers_of [] = []
-numbers_of (Done number ∷ replies) = number ∷ numbers_of replies
-numbers_of (LogSpent ∷ replies) = numbers_of replies
-numbers_of (Halted ∷ replies) = numbers_of replies
+numbers_of (Done count number ∷ replies) = number ∷ numbers_of replies
+numbers_of (Refused refusal ∷ replies) = numbers_of replies
+numbers_of (Halted cause ∷ replies) = numbers_of replies
 numbers_of (BadLine line ∷ replies) = numbers_of replies

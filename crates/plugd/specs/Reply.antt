@@ -1,8 +1,12 @@
 -- The text of a reply. The texts are this project's.
 use Rattle.std.specs.Prelude.{◌++◌, ◌∷◌, [], ℕ, List, codes}
 use Rattle.std.specs.Fmt.{decimal}
+use Rattle.sql_value.specs.declared.refusal.Refusal.{Refusal}
+use Rattle.sql_value.specs.Refusals.{refusal_number, refusal_text}
+use Rattle.plugd.specs.declared.reply.HaltCause.{HaltCause}
+use Rattle.plugd.specs.declared.reply.HaltCause.TheVariants.{Device, NotAVolume}
 use Rattle.plugd.specs.declared.reply.Reply.{Reply}
-use Rattle.plugd.specs.declared.reply.Reply.TheVariants.{Done, LogSpent, Halted, BadLine}
+use Rattle.plugd.specs.declared.reply.Reply.TheVariants.{Done, Refused, Halted, BadLine}
 
 -- what a line ends with
 abbrev pub line_feed : List ℕ
@@ -12,9 +16,22 @@ line_feed = 10 ∷ []
 abbrev pub numbered : List ℕ → ℕ → List ℕ
 numbered front number = front ++ (decimal number ++ line_feed)
 
+-- the line of a statement that was logged: how many rows it counts, and its number
+abbrev pub done_text : ℕ → ℕ → List ℕ
+done_text count number = codes "1 ok " ++ (decimal count ++ numbered (codes " #") number)
+
+-- the line of a statement that is refused: the number of its code, and its text
+abbrev pub refused_text : Refusal → List ℕ
+refused_text refusal = codes "1 error " ++ (decimal (refusal_number refusal) ++ (32 ∷ (refusal_text refusal ++ line_feed)))
+
+-- the line of a run that is halted
+abbrev pub halted_text : HaltCause → List ℕ
+halted_text Device = codes "1 halted device" ++ line_feed
+halted_text (NotAVolume file) = numbered (codes "1 halted volume ") file
+
 -- the line that is written for a reply
 abbrev pub text_of : Reply → List ℕ
-text_of (Done number) = numbered (codes "1 ok 1 #") number
-text_of LogSpent = codes "1 error 9009 log spent" ++ line_feed
-text_of Halted = codes "1 halted device" ++ line_feed
+text_of (Done count number) = done_text count number
+text_of (Refused refusal) = refused_text refusal
+text_of (Halted cause) = halted_text cause
 text_of (BadLine line) = numbered (codes "? ") line

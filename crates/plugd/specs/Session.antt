@@ -24,7 +24,7 @@ pub record Standing {C : Type 0} (serves : Telling C) (base : Base) (taken spoke
   pub rest : List ℕ
   pub replies : List Reply
   pub splits : Splits taken lines rest
-  pub front : session.front.items ≡ take 64 rest
+  pub front : session.front.items ≡ take 80 rest
   pub serving : serves session.core base lines replies
   pub texts : flat_map text_of replies ≡ spoken ++ session.replies.items
 

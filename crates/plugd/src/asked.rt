@@ -1,7 +1,9 @@
-//! The given table, and the changes that a line asks for, as the log has them.
-ghost use Rattle.std.specs.Prelude.{◌≡◌, ◌∷◌, [], ◌≤◌, IfOk, IsTrue, length};
+//! The one table and the one engine, and the changes that commands make, as the log has them.
+ghost use Rattle.std.specs.Prelude.{◌≡◌, ◌∷◌, [], Some, IfOk, IsTrue};
 ghost use Rattle.sql_value.specs.Names.{is_name};
-ghost use Rattle.plugd.specs.Asked.{given_columns, given_map, insert_of};
+ghost use Rattle.row_format.specs.Schemas.{IsSchema};
+ghost use Rattle.row_format.specs.declared.change.Change.TheVariants as change;
+ghost use Rattle.plugd.specs.Asked.{engine_name, table_name, table_columns, table_schema, row_of};
 
 use row_format::{Change, Changes, Column, Kind, Name, Row, Schema, TableMap, Text, Value};
 use std::alloc::{AllocError, Global};
@@ -16,8 +18,22 @@ fn name_of(alloc: Global, bytes: &[u8]) -> Result<Name, AllocError>
     }
 }
 
+/// The name of the one engine, `JOURNAL`. `AllocError` for want of memory.
+pub(crate) fn engine_name(alloc: Global) -> Result<Name, AllocError>
+    ensures { IfOk result (λ name. name ≡ engine_name) }
+{
+    name_of(alloc, b"JOURNAL")
+}
+
+/// The name of the one table, `t`. `AllocError` for want of memory.
+pub(crate) fn table_name(alloc: Global) -> Result<Name, AllocError>
+    ensures { IfOk result (λ name. name ≡ table_name) }
+{
+    name_of(alloc, b"t")
+}
+
 fn columns(alloc: Global) -> Result<Vec<Column>, AllocError>
-    ensures { IfOk result (λ columns. columns.items ≡ given_columns) }
+    ensures { IfOk result (λ columns. columns.items ≡ table_columns) }
 {
     let mut columns = Vec::new(alloc);
     columns.push(Column {
@@ -33,27 +49,74 @@ fn columns(alloc: Global) -> Result<Vec<Column>, AllocError>
     Ok(columns)
 }
 
-// The given table, `t (k BIGINT PRIMARY KEY, v VARCHAR(10))`.
-fn table_map(alloc: Global) -> Result<TableMap, AllocError>
-    ensures { IfOk result (λ map. map ≡ given_map) }
+/// The schema of the one table, `(k BIGINT PRIMARY KEY, v VARCHAR(10))`. `AllocError` for want of memory.
+pub(crate) fn table_schema(alloc: Global) -> Result<Schema, AllocError>
+    ensures value { IfOk result (λ schema. schema ≡ table_schema) }
+    ensures schema { IfOk result IsSchema }
 {
-    let table = name_of(alloc, b"t")?;
     match Schema::new(columns(alloc)?, Some(0)) {
-        Ok(schema) => Ok(TableMap { table, schema }),
+        Ok(schema) => Ok(schema),
         Err(_) => unreachable!(),
     }
 }
 
-/// The changes of an insert into the given table. `AllocError` for want of memory.
-pub(crate) fn insert_changes(alloc: Global, key: i64, text: Text) -> Result<Changes, AllocError>
-    ensures { IfOk result (λ changes. changes ≡ insert_of key text ∷ []) }
+/// The row of a key and a text. `AllocError` for want of memory.
+pub(crate) fn row_of(alloc: Global, key: i64, text: Text) -> Result<Row, AllocError>
+    ensures { IfOk result (λ row. row ≡ row_of key text) }
 {
     let mut values = Vec::new(alloc);
     values.push(Value::Int(key))?;
     values.push(Value::Text(text))?;
-    let row = Row::new(values);
-    let map = table_map(alloc)?;
+    Ok(Row::new(values))
+}
+
+fn one_change(alloc: Global, change: Change) -> Result<Changes, AllocError>
+    ensures { IfOk result (λ changes. changes ≡ change ∷ []) }
+{
     let mut changes = Vec::new(alloc);
-    changes.push(Change::Insert { map, row })?;
+    changes.push(change)?;
     Ok(Changes::new(changes))
+}
+
+/// The changes of an INSTALL of the engine. `AllocError` for want of memory.
+pub(crate) fn install_changes(alloc: Global) -> Result<Changes, AllocError>
+    ensures { IfOk result (λ changes. changes ≡ change.Install engine_name ∷ []) }
+{
+    let name = engine_name(alloc)?;
+    one_change(alloc, Change::Install { name })
+}
+
+/// The changes of a CREATE of this table with this schema. `AllocError` for want of memory.
+pub(crate) fn create_changes(
+    alloc: Global,
+    table: Name,
+    schema: Schema,
+) -> Result<Changes, AllocError>
+    ensures { IfOk result (λ changes. changes ≡ change.Create table engine_name schema ∷ []) }
+{
+    let engine = engine_name(alloc)?;
+    one_change(
+        alloc,
+        Change::Create {
+            table,
+            engine,
+            schema,
+        },
+    )
+}
+
+/// The changes of an INSERT of this row into this table, which has this schema. `AllocError` for want of memory.
+pub(crate) fn insert_changes(
+    alloc: Global,
+    table: Name,
+    schema: Schema,
+    row: Row,
+) -> Result<Changes, AllocError>
+    ensures { IfOk result (λ changes. changes ≡ change.Insert (record {
+      table = table;
+      schema = schema;
+    }) row ∷ []) }
+{
+    let map = TableMap { table, schema };
+    one_change(alloc, Change::Insert { map, row })
 }

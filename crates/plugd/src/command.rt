@@ -1,4 +1,5 @@
-//! What one line of the input asks for: `settle`, an insert into the given table, or nothing that is known.
+//! What one line of the input asks for: `settle`, to install the engine, to make the given table,
+//! an insert into that table, or nothing that is known.
 //!
 //! A line is read without memory but for the text, and its first `MAX_LINE` bytes decide.
 ghost use Rattle.std.specs.Prelude.{◌≡◌, ◌≢◌, ◌↔◌, ◌≤◌, ◌<◌, ◌++◌, ℕ, ℤ, List, IfOk, IsTrue, MatchOption, codes, position, take, ◌==◌};
@@ -11,28 +12,46 @@ use row_format::Text;
 use std::alloc::{AllocError, Global};
 
 /// How many bytes of a line decide what it asks for: a longer line asks for nothing that is known.
-pub const MAX_LINE: usize = 64;
+pub const MAX_LINE: usize = 80;
+
+// The line that asks for the engine to be installed.
+const INSTALL: &[u8] = b"@1 INSTALL PLUGIN JOURNAL SONAME 'ha_journal.so'";
+
+// The line that asks for the table to be made.
+const CREATE: &[u8] = b"@1 CREATE TABLE t (k BIGINT PRIMARY KEY, v VARCHAR(10)) ENGINE = JOURNAL";
 
 /// What a line asks for.
 #[derive(Drop)]
 pub enum Command {
     /// The line `settle`.
     Settle,
-    /// The line `@1 INSERT INTO t VALUES (KEY, 'TEXT')`, with exactly these spaces. The key is a decimal in BIGINT without a
-    /// plus sign or leading zeros, and the text has at most 10 ASCII letters or digits.
+    /// The line `@1 INSTALL PLUGIN JOURNAL SONAME 'ha_journal.so'`.
+    Install,
+    /// The line `@1 CREATE TABLE t (k BIGINT PRIMARY KEY, v VARCHAR(10)) ENGINE = JOURNAL`.
+    Create,
+    /// The line `@1 INSERT INTO t VALUES (KEY, 'TEXT')`, with exactly these spaces. The key is a
+    /// decimal in BIGINT without a plus sign or leading zeros, and the text has at most 10 ASCII
+    /// letters or digits.
     Insert { key: i64, text: Text },
     /// Any other line.
     Bad,
 }
 
-/// What the line asks for. One carriage return at its end counts for nothing. The error comes where there is no memory for the
-/// text.
+/// What the line asks for. One carriage return at its end counts for nothing.
+///
+/// `AllocError` for want of memory for the text of an insert.
 pub fn command_of(alloc: Global, line: &[u8]) -> Result<Command, AllocError>
     ensures { IfOk result (λ c. IsCommand line.now c) }
 {
     let line = without_return(line);
     if line == b"settle".as_slice() {
         return Ok(Command::Settle);
+    }
+    if line == INSTALL {
+        return Ok(Command::Install);
+    }
+    if line == CREATE {
+        return Ok(Command::Create);
     }
     match insert_of(line) {
         Some((key, text)) => {
@@ -132,13 +151,25 @@ fn is_short_word(text: &[u8]) -> bool
 #[cfg(test)]
 mod tests {
     use super::{Command, MAX_LINE, command_of};
+    use std::alloc::{AllocError, Global};
     use std::test::Fail;
+
+    // What a line asks for, in one word.
+    fn word_of(alloc: Global, line: &[u8]) -> Result<&'static str, AllocError> {
+        let command = command_of(alloc, line)?;
+        Ok(match &command {
+            Command::Settle => "settle",
+            Command::Install => "install",
+            Command::Create => "create",
+            Command::Insert { .. } => "insert",
+            Command::Bad => "bad",
+        })
+    }
 
     #[test]
     fn inserts_are_read_as_printed(rt: HostRuntime) -> Result<(), Fail> {
         let longest = b"@1 INSERT INTO t VALUES (-9223372036854775808, 'abcdeVWXYZ')\r".as_slice();
         assert_eq!(rt; longest.len(), 61);
-        assert!(rt; longest.len() <= MAX_LINE);
         let lines: [(&[u8], i64, &[u8]); 6] = [
             (b"@1 INSERT INTO t VALUES (1, 'x')", 1, b"x"),
             (b"@1 INSERT INTO t VALUES (0, '')", 0, b""),
@@ -161,18 +192,75 @@ mod tests {
                     assert_eq!(rt; key, *want, "line {i}");
                     assert!(rt; text.as_bytes() == *word, "line {i}");
                 }
-                Command::Settle | Command::Bad => assert!(rt; false, "line {i}"),
+                _ => assert!(rt; false, "line {i}"),
             }
         }
         Ok(())
     }
 
     #[test]
-    fn all_other_lines_are_settle_or_bad(rt: HostRuntime) -> Result<(), Fail> {
-        for line in [b"settle".as_slice(), b"settle\r".as_slice()] {
-            let is_settle = matches!(&command_of(rt.alloc(), line)?, Command::Settle);
-            assert!(rt; is_settle);
+    fn fixed_lines_are_known(rt: HostRuntime) -> Result<(), Fail> {
+        let lines: [(&[u8], &str); 6] = [
+            (b"settle", "settle"),
+            (b"settle\r", "settle"),
+            (
+                b"@1 INSTALL PLUGIN JOURNAL SONAME 'ha_journal.so'",
+                "install",
+            ),
+            (
+                b"@1 INSTALL PLUGIN JOURNAL SONAME 'ha_journal.so'\r",
+                "install",
+            ),
+            (
+                b"@1 CREATE TABLE t (k BIGINT PRIMARY KEY, v VARCHAR(10)) ENGINE = JOURNAL",
+                "create",
+            ),
+            (
+                b"@1 CREATE TABLE t (k BIGINT PRIMARY KEY, v VARCHAR(10)) ENGINE = JOURNAL\r",
+                "create",
+            ),
+        ];
+        for (i, (line, want)) in lines.iter().enumerate() {
+            assert!(rt; line.len() <= MAX_LINE, "line {i}");
+            assert_eq!(rt; word_of(rt.alloc(), line)?, *want, "line {i}");
         }
+        Ok(())
+    }
+
+    // A byte more or less, another case, two spaces, or more than `MAX_LINE` bytes. The first
+    // `MAX_LINE` bytes are read alone too.
+    #[test]
+    fn lines_near_the_fixed_ones_are_bad(rt: HostRuntime) -> Result<(), Fail> {
+        let lines: [&[u8]; 16] = [
+            b"@1 INSTALL PLUGIN JOURNAL SONAME 'ha_journal.so';",
+            b"@1 INSTALL PLUGIN JOURNAL SONAME 'ha_journal.so",
+            b"1 INSTALL PLUGIN JOURNAL SONAME 'ha_journal.so'",
+            b"@1 INSTALL PLUGIN journal SONAME 'ha_journal.so'",
+            b"@1 INSTALL PLUGIN  JOURNAL SONAME 'ha_journal.so'",
+            b"@1 INSTALL PLUGIN JOURNAL SONAME 'ha_journal.so'\r\r",
+            b"@1 INSTALL PLUGIN JOURNAL SONAME 'ha_journal.so'\r                                ",
+            b"@1 INSTALL PLUGIN JOURNAL SONAME 'ha_journal.so'                                \r",
+            b"@1 CREATE TABLE t (k BIGINT PRIMARY KEY, v VARCHAR(10)) ENGINE = JOURNAL;",
+            b"@1 CREATE TABLE t (k BIGINT PRIMARY KEY, v VARCHAR(10)) ENGINE = JOURNA",
+            b"1 CREATE TABLE t (k BIGINT PRIMARY KEY, v VARCHAR(10)) ENGINE = JOURNAL",
+            b"@1 CREATE TABLE T (k BIGINT PRIMARY KEY, v VARCHAR(10)) ENGINE = JOURNAL",
+            b"@1 CREATE TABLE t (k BIGINT PRIMARY KEY,  v VARCHAR(10)) ENGINE = JOURNAL",
+            b"@1 CREATE TABLE t (k BIGINT PRIMARY KEY, v VARCHAR(10)) ENGINE = JOURNAL\r\r",
+            b"@1 CREATE TABLE t (k BIGINT PRIMARY KEY, v VARCHAR(10)) ENGINE = JOURNAL\r        ",
+            b"@1 CREATE TABLE t (k BIGINT PRIMARY KEY, v VARCHAR(10)) ENGINE = JOURNAL        \r",
+        ];
+        let longer = lines.iter().filter(|line| line.len() > MAX_LINE).count();
+        assert_eq!(rt; longer, 4);
+        for (i, line) in lines.iter().enumerate() {
+            let front = &line[..line.len().min(MAX_LINE)];
+            assert_eq!(rt; word_of(rt.alloc(), line)?, "bad", "line {i}");
+            assert_eq!(rt; word_of(rt.alloc(), front)?, "bad", "front of line {i}");
+        }
+        Ok(())
+    }
+
+    #[test]
+    fn all_other_lines_are_bad(rt: HostRuntime) -> Result<(), Fail> {
         let lines: [&[u8]; 25] = [
             b"",
             b"\r",
@@ -201,8 +289,7 @@ mod tests {
             b"@1 INSERT INTO t VALUES (1, 'x', 'y')",
         ];
         for (i, line) in lines.iter().enumerate() {
-            let is_bad = matches!(&command_of(rt.alloc(), line)?, Command::Bad);
-            assert!(rt; is_bad, "line {i}");
+            assert_eq!(rt; word_of(rt.alloc(), line)?, "bad", "line {i}");
         }
         Ok(())
     }

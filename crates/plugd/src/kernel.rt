@@ -1,30 +1,57 @@
-//! The kernel of a run: the server, and the storage that it works on.
+//! The kernel of a run: the server, the storage that it works on, and its engine.
 //!
-//! It owns the storage: opening takes it out of the volume, and closing puts it back.
+//! It owns both boxes: opening takes the storage out of the volume, and closing puts it back.
 ghost use Rattle.std.specs.Prelude.{◌≡◌, ◌≤◌, IfOk, IfErr};
-ghost use Rattle.plugd.specs.Run.{Begins, Refused};
+ghost use Rattle.engine_api.specs.Calls.{IsSame};
+ghost use Rattle.engine_api.specs.Many.{working};
+ghost use Rattle.plugd.specs.Open.{Begins, Refused, as_opening};
+ghost use Rattle.plugd.specs.Serve.{Core, IsJournal};
 
 use crate::ack::Ack;
+use crate::calls::{bring, open_log};
+use crate::command::{Command, command_of};
 use crate::coordinator::Coordinator;
-use crate::reply::Reply;
+use crate::found::Found;
+use crate::reply::{HaltCause, Reply};
 use crate::server::Server;
-use crate::xids::XidSet;
-use binlog_file::{Binlog, BinlogFault};
+use binlog_file::BinlogFault;
 use disk_model::{Storage, Volume};
+use engine_api::Engine;
 use std::alloc::{AllocError, Global};
+use xid_recovery::OpenFault;
 
-/// The server, and the storage that it works on.
+/// The server, the storage that it works on, and its engine.
 #[derive(Drop)]
 pub(crate) struct Kernel {
-    storage: Box<dyn Storage + Send>,
-    server: Server,
+    pub(crate) storage: Box<dyn Storage + Send>,
+    pub(crate) engine: Box<dyn Engine + Send>,
+    pub(crate) server: Server,
 }
 
-/// Why the log was not opened, and the volume as the opening left it.
+/// Why the volume was not opened, and the volume as the opening left it.
 #[derive(Drop)]
 pub(crate) struct Unopened {
-    pub(crate) fault: BinlogFault,
+    pub(crate) fault: OpenFault,
     pub(crate) volume: Volume,
+}
+
+/// What is at work in a kernel, as one value.
+pub(crate) trait AtWork: Drop {
+    // The server, its engine and the disk.
+    ghost core_of: { Self → Core };
+}
+
+impl AtWork for Kernel {
+    ghost core_of = { λ k. record {
+      server = k.server;
+      engine = record {
+        kind = (Engine-box k.engine).kind k.engine.value;
+        reading = (Engine-box k.engine).reading k.engine.value;
+        state = (Engine-box k.engine).state k.engine.value;
+        holds = (Engine-box k.engine).holds k.engine.value;
+      };
+      disk = (Storage-box k.storage).disk k.storage.value;
+    } };
 }
 
 impl Coordinator for Kernel {
@@ -32,74 +59,129 @@ impl Coordinator for Kernel {
 
     ghost volume_of = { λ k. (Storage-box k.storage).disk k.storage.value };
 
+    ghost reads = { λ k. record {
+      kind = (Engine-box k.engine).kind k.engine.value;
+      reading = (Engine-box k.engine).reading k.engine.value;
+    } };
+
     ghost acks_of = { λ k. k.server.acks.items };
 
     ghost is_halted = { λ k. k.server.halted };
 
-    ghost serves = { λ k base lines replies. Serving base lines replies k.server
-        ((Storage-box k.storage).disk k.storage.value) };
+    ghost serves = { λ k base lines replies. Serving base lines replies (record {
+      server = k.server;
+      engine = record {
+        kind = (Engine-box k.engine).kind k.engine.value;
+        reading = (Engine-box k.engine).reading k.engine.value;
+        state = (Engine-box k.engine).state k.engine.value;
+        holds = (Engine-box k.engine).holds k.engine.value;
+      };
+      disk = (Storage-box k.storage).disk k.storage.value;
+    }) };
 
-    ghost rests = { λ k base lines replies. Halts base lines replies k.server
-        ((Storage-box k.storage).disk k.storage.value) };
+    ghost rests = { λ k base lines replies. Halts base lines replies (record {
+      server = k.server;
+      engine = record {
+        kind = (Engine-box k.engine).kind k.engine.value;
+        reading = (Engine-box k.engine).reading k.engine.value;
+        state = (Engine-box k.engine).state k.engine.value;
+        holds = (Engine-box k.engine).holds k.engine.value;
+      };
+      disk = (Storage-box k.storage).disk k.storage.value;
+    }) };
 
     fn answer(&mut self, front: &[u8]) -> Result<Option<Reply>, AllocError> {
-        self.server.answer(&mut *self.storage, front)
+        let command = command_of(self.server.alloc, front)?;
+        self.server.lines += 1;
+        match command {
+            Command::Settle => Ok(None),
+            Command::Bad => Ok(Some(Reply::BadLine {
+                line: self.server.lines,
+            })),
+            statement => {
+                if let Some(cause) = self.server.halted {
+                    return Ok(Some(Reply::Halted { cause }));
+                }
+                let reply = self.play(statement)?;
+                Ok(Some(reply))
+            }
+        }
     }
 
-    fn halted(&self) -> bool {
+    fn halted(&self) -> Option<HaltCause> {
         self.server.halted
     }
 
     ghost may_rest = { λ k base lines replies s. record {
       state = s.state;
       stopped = s.stopped;
-      serves = s.shows.serves;
-      halts = s.shows.halts;
+      halted = s.shows.halted;
     } };
 }
 
 impl Kernel {
-    // Opens the log of a volume, which may get so many bytes long.
-    pub(crate) fn open(alloc: Global, volume: Volume, limit: u32) -> Result<Kernel, Unopened>
-        requires { limit ≤ 2147483647 }
-        ensures ok { IfOk result (λ kernel. Begins limit (disk volume.storage)
-            (⟦<Kernel as Coordinator>⟧.serves kernel)) }
-        ensures err { IfErr result (λ refusal. Refused (disk volume.storage) refusal.fault
-            (disk refusal.volume.storage)) }
+    // Opens the log of a volume, which may get so many bytes long, and brings the engine to it.
+    pub(crate) fn open(
+        alloc: Global,
+        volume: Volume,
+        engine: Box<dyn Engine + Send>,
+        limit: u32,
+    ) -> Result<Kernel, Unopened>
+        requires limit { limit ≤ 2147483647 }
+        requires journal { IsJournal (kind engine) }
+        ensures begins { IfOk result (λ kernel. Begins limit (disk volume.storage)
+            (⟦<Kernel as AtWork>⟧.core_of kernel)) }
+        ensures same { IfOk result (λ kernel. IsSame (kind engine) (kind kernel.engine)
+            (reading engine) (reading kernel.engine)) }
+        ensures refused { IfErr result (λ refusal. Refused
+            (working (kind engine) (reading engine) (state engine) (holds engine))
+            (disk volume.storage) refusal.fault (disk refusal.volume.storage)) }
     {
         let mut storage = volume.storage;
-        let mut xids = XidSet::new(alloc);
-        match Binlog::open(alloc, &mut *storage, &mut xids) {
-            Ok(opened) => {
-                let server = Server {
-                    alloc,
-                    log: opened.log,
-                    xids,
-                    acks: Vec::new(alloc),
-                    spelling: Vec::new(alloc),
-                    lines: 0,
-                    limit,
-                    halted: false,
-                };
-                Ok(Kernel { storage, server })
+        let mut engine = engine;
+        let mut found = Found::none(alloc);
+        let opened = match open_log(alloc, &mut storage, &mut found) {
+            Ok(opened) => opened,
+            Err(fault) => {
+                let fault = open_fault(fault);
+                let volume = Volume { storage };
+                return Err(Unopened { fault, volume });
             }
-            Err(fault) => Err(Unopened {
-                fault,
-                volume: Volume { storage },
+        };
+        let logged = opened.log.flushed();
+        match bring(alloc, &mut storage, &mut engine, &found.pairs, logged) {
+            Ok(_) => Ok(Kernel {
+                storage,
+                engine,
+                server: Server::new(alloc, opened.log, found.xids, found.seen, limit),
             }),
+            Err(fault) => {
+                let volume = Volume { storage };
+                Err(Unopened { fault, volume })
+            }
         }
     }
 
-    // Ends it: the volume, and what it acknowledged.
+    // The volume, and what was acknowledged.
     pub(crate) fn close(self) -> (Volume, Vec<Ack>)
         ensures volume { (result.0).storage ≡ self.storage }
-        ensures acks { (result.1).items ≡ ⟦<Kernel as Coordinator>⟧.acks_of self }
+        ensures acks { result.1 ≡ self.server.acks }
     {
-        (
-            Volume {
-                storage: self.storage,
-            },
-            self.server.acks,
-        )
+        let server = self.server;
+        let volume = Volume {
+            storage: self.storage,
+        };
+        (volume, server.acks)
+    }
+}
+
+// The fault of the log, as one of an opening.
+fn open_fault(fault: BinlogFault) -> OpenFault
+    ensures { result ≡ as_opening fault }
+{
+    match fault {
+        BinlogFault::Device => OpenFault::Device,
+        BinlogFault::NotAVolume { file } => OpenFault::NotAVolume { file },
+        BinlogFault::Memory => OpenFault::Memory,
     }
 }

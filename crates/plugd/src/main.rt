@@ -6,16 +6,24 @@
 
 mod ack;
 mod asked;
+mod calls;
 mod command;
 mod coordinator;
+#[cfg(test)]
+mod crash_tests;
 mod dir_storage;
+#[cfg(test)]
+mod fixture;
+mod found;
 mod kernel;
 mod log_one;
 mod play;
 mod reply;
 mod run;
+mod seen;
 mod server;
 mod session;
+mod statement;
 #[cfg(test)]
 mod tests;
 mod xids;
@@ -23,25 +31,31 @@ mod xids;
 use crate::dir_storage::{DirStorage, OpenDir, lock_folder};
 use crate::run::{Status, run};
 use disk_model::Volume;
+use engine_api::Engine;
+use journal_engine::JournalEngine;
 use outer_io::{StdSink, StdSource};
+use row_format::Name;
 use std::env;
 use std::process::ExitCode;
+
+// The first file of JOURNAL's journal. (This project's own.)
+const JOURNAL_FILE: u32 = 16;
 
 fn main(rt: HostRuntime) -> ExitCode {
     let alloc = rt.alloc();
     let words = match env::args(&rt) {
         Ok(words) => words,
-        Err(_) => return ended(&rt, Status::NoMemory),
+        Err(_) => return ended(&rt, &Status::NoMemory),
     };
     let words: Vec<String> = match words.collect(alloc) {
         Ok(words) => words,
-        Err(_) => return ended(&rt, Status::NoMemory),
+        Err(_) => return ended(&rt, &Status::NoMemory),
     };
     let status = match words.as_slice() {
         [_, folder, words @ ..] => serve_folder(&rt, folder.as_str(), words),
         _ => Status::Usage { place: 0 },
     };
-    ended(&rt, status)
+    ended(&rt, &status)
 }
 
 // The run over a folder, which is locked meanwhile.
@@ -62,21 +76,44 @@ fn serve_folder(rt: &HostRuntime, folder: &str, words: &[String]) -> Status {
     let Ok(storage) = Box::new(alloc, storage) else {
         return Status::NoMemory;
     };
+    let Ok(engine) = JournalEngine::new(JOURNAL_FILE, alloc) else {
+        return Status::NoMemory;
+    };
+    let Ok(engine) = Box::new(alloc, engine) else {
+        return Status::NoMemory;
+    };
+    let mut shelf: Vec<Box<dyn Engine + Send>> = Vec::new(alloc);
+    if shelf.push(engine).is_err() {
+        return Status::NoMemory;
+    }
     let mut source = StdSource::new(rt.stdin());
     let mut sink = StdSink::new(rt.stdout());
-    let (outcome, volume) = run(alloc, words, &mut source, &mut sink, Volume::new(storage));
+    let volume = Volume::new(storage);
+    let (outcome, volume) = run(alloc, words, &mut source, &mut sink, volume, shelf);
     drop(volume);
     drop(lock);
     outcome.status
 }
 
 // Says how the run ended, and gives its exit code.
-fn ended(rt: &HostRuntime, status: Status) -> ExitCode {
+fn ended(rt: &HostRuntime, status: &Status) -> ExitCode {
     let said = match status {
         Status::Ok => return ExitCode::from(0),
         Status::Usage { place } => eprintln!(rt; "plugd: usage at {place}"),
         Status::NotAVolume { file } => eprintln!(rt; "plugd: not a volume {file}"),
         Status::Device => eprintln!(rt; "plugd: device"),
+        Status::EngineMissing { name } => {
+            let name = text_of(name);
+            eprintln!(rt; "plugd: engine missing {name}")
+        }
+        Status::Ahead {
+            engine,
+            engine_last,
+            log_last,
+        } => {
+            let name = text_of(engine);
+            eprintln!(rt; "plugd: ahead {name} {engine_last} {log_last}")
+        }
         Status::SourceFault => eprintln!(rt; "plugd: input failed"),
         Status::SinkFault => eprintln!(rt; "plugd: output failed"),
         Status::InputTooLong => eprintln!(rt; "plugd: input too long"),
@@ -86,13 +123,20 @@ fn ended(rt: &HostRuntime, status: Status) -> ExitCode {
     ExitCode::from(code_of(status))
 }
 
+// The name of an engine, to be printed.
+fn text_of(name: &Name) -> &str {
+    str::from_utf8(name.as_bytes()).unwrap_or("?")
+}
+
 // The exit code of a status. (This project's own.)
-fn code_of(status: Status) -> u8 {
+fn code_of(status: &Status) -> u8 {
     match status {
         Status::Ok => 0,
         Status::Usage { .. } => 1,
         Status::NotAVolume { .. } => 2,
         Status::Device => 3,
+        Status::EngineMissing { .. } => 4,
+        Status::Ahead { .. } => 5,
         Status::SourceFault => 6,
         Status::SinkFault => 7,
         Status::InputTooLong => 8,

@@ -2,6 +2,7 @@
 //!
 //! All replies to what was read are written before the next read, so that a client that waits for them is answered.
 ghost use Rattle.std.specs.Prelude.{◌≡◌, ◌≤◌, ◌<◌, ◌+◌, [], ℕ, List, length};
+ghost use Rattle.plugd.specs.Coordinator.{SameReader};
 ghost use Rattle.plugd.specs.Session.{input_limit, IsStanding, IsReading, IsFresh, EndsIn, World, world, Reading};
 ghost use Rattle.plugd.specs.Piece.{wrote, PlaysBytes, Closes, PlaysPiece, PlaysAll};
 ghost use Rattle.plugd.specs.Serve.{Base};
@@ -37,8 +38,9 @@ fn play_bytes<C: Coordinator, K: Sink>(
     sink: &mut K,
     bytes: &[u8],
 ) -> Result<(), Ending>
-    requires { IsStanding C.serves session.old (length bytes.now) }
-    ensures { PlaysBytes C.serves C.rests bytes.now session.old session.new result
+    requires standing { IsStanding C.serves session.old (length bytes.now) }
+    ensures same { SameReader (C.reads session.old.core) (C.reads session.new.core) }
+    ensures plays { PlaysBytes C.serves C.rests bytes.now session.old session.new result
         (wrote (K.held sink.old) (K.sink_faults sink.old)
         (K.held sink.new) (K.sink_faults sink.new)) }
 {
@@ -54,8 +56,9 @@ fn play_bytes<C: Coordinator, K: Sink>(
 
 // Plays the line that the input's end leaves open.
 fn close<C: Coordinator, K: Sink>(session: &mut Session<C>, sink: &mut K) -> Result<(), Ending>
-    requires { IsStanding C.serves session.old 2 }
-    ensures { Closes C.serves C.rests session.old session.new result
+    requires standing { IsStanding C.serves session.old 2 }
+    ensures same { SameReader (C.reads session.old.core) (C.reads session.new.core) }
+    ensures closes { Closes C.serves C.rests session.old session.new result
         (wrote (K.held sink.old) (K.sink_faults sink.old)
         (K.held sink.new) (K.sink_faults sink.new)) }
 {
@@ -77,6 +80,7 @@ fn play_piece<C: Coordinator, S: Source, K: Sink>(
         (world (C.volume_of session.old.core) (S.left source.old) (S.source_faults source.old)
         (K.held sink.old) (K.sink_faults sink.old)) room }
     requires piece { 0 < length buf.old }
+    ensures same { SameReader (C.reads session.old.core) (C.reads session.new.core) }
     ensures plays { PlaysPiece C.serves C.rests room session.old session.new result
         (world (C.volume_of session.old.core) (S.left source.old) (S.source_faults source.old)
         (K.held sink.old) (K.sink_faults sink.old))
@@ -116,6 +120,7 @@ pub(crate) fn play_all<C: Coordinator, S: Source, K: Sink>(
         (world (C.volume_of session.old.core) (S.left source.old) (S.source_faults source.old)
         (K.held sink.old) (K.sink_faults sink.old)) }
     requires piece { 0 < length buf.old }
+    ensures same { SameReader (C.reads session.old.core) (C.reads session.new.core) }
     ensures plays { PlaysAll C.serves C.rests session.old session.new result
         (world (C.volume_of session.old.core) (S.left source.old) (S.source_faults source.old)
         (K.held sink.old) (K.sink_faults sink.old))

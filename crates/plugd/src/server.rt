@@ -1,26 +1,30 @@
-//! The server of one session: it answers each line, and logs what a line inserts.
+//! The coordinator of one session: it answers each line, and takes each statement from its execution to its acknowledgement.
 //!
 //! ```text
-//! serving --a fault of the device at a commit--> halted
+//! serving --a fault of the device, or of the engine's files--> halted
 //! ```
-//! Invariant: while it serves, every transaction in the log is durable, and each was acknowledged after its sync (`AtRest`).
-ghost use Rattle.std.specs.Prelude.{◌≡◌, ◌≤◌, ◌<◌, ◌+◌, ◌^◌, ◌++◌, ◌∷◌, [], ℕ, List, length, vec_len, vec_capacity, IfOk, OnOk, OnErr, IsTrue, false, true};
-ghost use Rattle.disk_model.specs.Disk.{Disk};
-ghost use Rattle.row_format.specs.declared.change.Transaction.{Transaction};
+//! A statement is executed in the engine, prepared there, written to the log, made durable there, committed in the engine and
+//! acknowledged, in this order.
+//!
+//! Invariant: while it serves, every transaction of the log is durable, and the engine is at the log (`IsAtRest`).
+ghost use Rattle.std.specs.Prelude.{◌≡◌, ◌≤◌, ◌<◌, ◌^◌, [], None, length, vec_len, vec_capacity};
 ghost use Rattle.row_format.specs.Changes.{AreFitChanges};
-ghost use Rattle.binlog_file.specs.Binlog.{flushed_of, end_in, IsOpen, Carries};
+ghost use Rattle.plugd.specs.Asked.{count_of};
+ghost use Rattle.plugd.specs.Spell.{Spells, Acknowledges, with_halt};
+ghost use Rattle.plugd.specs.declared.reply.Reply.TheVariants.{Done, Halted};
 
 use crate::ack::Ack;
-use crate::asked::insert_changes;
-use crate::command::{Command, command_of};
-use crate::log_one::log_one;
-use crate::reply::Reply;
+use crate::command::Command;
+use crate::reply::{HaltCause, Reply};
+use crate::seen::Seen;
 use crate::xids::XidSet;
 use binlog_events::{put_transaction, transaction_len};
 use binlog_file::Binlog;
-use disk_model::Storage;
 use row_format::{Changes, Transaction};
 use std::alloc::{AllocError, Global};
+
+/// The session by which the engine knows what this server does.
+pub(crate) const SESSION: u32 = 1;
 
 /// The log, what was acknowledged, and how many lines were played.
 #[derive(Drop)]
@@ -28,85 +32,89 @@ pub(crate) struct Server {
     pub(crate) alloc: Global,
     pub(crate) log: Binlog,
     pub(crate) xids: XidSet,
+    pub(crate) seen: Seen,
     pub(crate) acks: Vec<Ack>,
     // The transaction that is being logged, as it is spelt.
     pub(crate) spelling: Vec<u8>,
     pub(crate) lines: u64,
     pub(crate) limit: u32,
-    pub(crate) halted: bool,
+    pub(crate) halted: Option<HaltCause>,
 }
 
 impl Server {
-    ghost use Rattle.plugd.specs.Commit.{Commits, Writes};
-    ghost use Rattle.plugd.specs.Serve.{IsServing, Answers};
-
-    // Answers the line that begins with these bytes: `settle` has no reply.
-    pub(crate) fn answer(
-        &mut self,
-        volume: &mut dyn Storage,
-        front: &[u8],
-    ) -> Result<Option<Reply>, AllocError>
-        requires serving { IsServing self.old (disk volume.old) }
-        requires few { self.old.lines < 4294967296 }
-        ensures answers { Answers front.now self.old self.new result (disk volume.old) (disk volume.new) }
+    /// A server over a log that an opening found, which may get so many bytes long.
+    pub(crate) fn new(alloc: Global, log: Binlog, xids: XidSet, seen: Seen, limit: u32) -> Server
+        ensures log { result.log ≡ log }
+        ensures xids { result.xids ≡ xids }
+        ensures seen { result.seen ≡ seen }
+        ensures limit { result.limit ≡ limit }
+        ensures lines { result.lines ≡ 0 }
+        ensures acks { result.acks.items ≡ [] }
+        ensures halted { result.halted ≡ None }
     {
-        let command = command_of(self.alloc, front)?;
-        self.lines += 1;
-        match command {
-            Command::Settle => Ok(None),
-            Command::Bad => Ok(Some(Reply::BadLine { line: self.lines })),
-            Command::Insert { key, text } => {
-                if self.halted {
-                    return Ok(Some(Reply::Halted));
-                }
-                let changes = insert_changes(self.alloc, key, text)?;
-                let reply = self.commit(volume, changes)?;
-                Ok(Some(reply))
-            }
+        Server {
+            alloc,
+            log,
+            xids,
+            seen,
+            acks: Vec::new(alloc),
+            spelling: Vec::new(alloc),
+            lines: 0,
+            limit,
+            halted: None,
         }
     }
 
-    // Logs changes and acknowledges them. Nothing is appended where the log would pass its limit, nor after want of memory.
-    fn commit(&mut self, volume: &mut dyn Storage, changes: Changes) -> Result<Reply, AllocError>
+    // Spells the transaction of these changes, and makes room for its acknowledgement; or tells that the log would pass its limit with it.
+    pub(crate) fn spell(&mut self, xid: u64, changes: Changes) -> Result<bool, AllocError>
         requires some { 0 < length changes }
         requires few { length changes < 2 ^ 31 }
         requires fit { AreFitChanges changes }
         requires limit { self.old.limit ≤ 2147483647 }
-        requires log { IsOpen self.old.log (disk volume.old) }
-        ensures commits { Commits changes self.old self.new result (disk volume.old) (disk volume.new) }
+        ensures spells { Spells xid changes self.old self.new result }
     {
-        let size = transaction_len(&changes);
-        if size > u64::from(self.log.room(self.limit)) {
-            return Ok(Reply::LogSpent);
+        if transaction_len(&changes) > u64::from(self.log.room(self.limit)) {
+            return Ok(false);
         }
-        let xid = self.xids.give()?;
         let txn = Transaction { xid, changes };
         self.spelling.clear();
         let at = self.log.len();
         let prev = self.log.last_crc();
         put_transaction(&txn, at, prev, &mut self.spelling)?;
         self.acks.reserve(1)?;
-        Ok(self.write(volume))
+        Ok(true)
     }
 
-    // Writes and syncs what is spelt, and acknowledges it.
-    fn write(&mut self, volume: &mut dyn Storage) -> Reply
-        requires whole { (t : Transaction) × Carries self.old.log self.old.spelling.items (t ∷ []) }
+    // Acknowledges a statement, at this device call, as this transaction of the log.
+    pub(crate) fn acknowledge(&mut self, statement: &Command, number: u64, call: u64) -> Reply
         requires room { vec_len self.old.acks < vec_capacity self.old.acks }
-        requires log { IsOpen self.old.log (disk volume.old) }
-        ensures writes { Writes self.old self.new result (disk volume.old) (disk volume.new) }
+        ensures acknowledges { Acknowledges statement.now number call self.old self.new }
+        ensures reply { result ≡ Done (count_of statement.now) number }
     {
-        match log_one(&mut self.log, volume, &self.spelling) {
-            Ok(()) => {
-                let number = self.log.flushed();
-                let call = volume.calls();
-                let _ = self.acks.push(Ack { number, call });
-                Reply::Done { number }
-            }
-            Err(_) => {
-                self.halted = true;
-                Reply::Halted
-            }
+        let _ = self.acks.push(Ack { number, call });
+        self.seen.note(statement);
+        Reply::Done {
+            count: rows_of(statement),
+            number,
         }
+    }
+
+    // Halts the run.
+    pub(crate) fn halt(&mut self, cause: HaltCause) -> Reply
+        ensures server { self.new ≡ with_halt cause self.old }
+        ensures reply { result ≡ Halted cause }
+    {
+        self.halted = Some(cause);
+        Reply::Halted { cause }
+    }
+}
+
+// How many rows a statement counts.
+fn rows_of(statement: &Command) -> u64
+    ensures { result ≡ count_of statement.now }
+{
+    match statement {
+        Command::Insert { .. } => 1,
+        _ => 0,
     }
 }

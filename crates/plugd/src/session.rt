@@ -4,6 +4,7 @@
 //! still to be written (`Standing`).
 ghost use Rattle.std.specs.Prelude.{◌≡◌, ◌≤◌, ◌++◌, ◌∷◌, [], ℕ, List, length, take, OnOk, OnErr};
 ghost use Rattle.outer_io.specs.Ends.{Put, PutFront, Counts};
+ghost use Rattle.plugd.specs.Coordinator.{SameReader};
 ghost use Rattle.plugd.specs.Session.{IsStanding, Takes};
 
 use crate::command::MAX_LINE;
@@ -36,8 +37,9 @@ impl<C: Coordinator> Session<C> {
 
     // Plays these bytes. Where there was no memory, what is left of the session is its replies and acknowledgements.
     pub(crate) fn take_all(&mut self, bytes: &[u8]) -> Result<(), AllocError>
-        requires { IsStanding C.serves self.old (length bytes.now) }
-        ensures { Takes C.serves C.rests bytes.now self.old self.new result }
+        requires standing { IsStanding C.serves self.old (length bytes.now) }
+        ensures same { SameReader (C.reads self.old.core) (C.reads self.new.core) }
+        ensures takes { Takes C.serves C.rests bytes.now self.old self.new result }
     {
         for byte in bytes {
             self.take(*byte)?;
@@ -46,8 +48,9 @@ impl<C: Coordinator> Session<C> {
     }
 
     fn take(&mut self, byte: u8) -> Result<(), AllocError>
-        requires { IsStanding C.serves self.old 1 }
-        ensures { Takes C.serves C.rests (byte ∷ []) self.old self.new result }
+        requires standing { IsStanding C.serves self.old 1 }
+        ensures same { SameReader (C.reads self.old.core) (C.reads self.new.core) }
+        ensures takes { Takes C.serves C.rests (byte ∷ []) self.old self.new result }
     {
         if byte == b'\n' {
             return self.end_line();
@@ -59,14 +62,15 @@ impl<C: Coordinator> Session<C> {
     }
 
     fn end_line(&mut self) -> Result<(), AllocError>
-        requires { IsStanding C.serves self.old 1 }
+        requires standing { IsStanding C.serves self.old 1 }
+        ensures same { SameReader (C.reads self.old.core) (C.reads self.new.core) }
         ensures takes { Takes C.serves C.rests (10 ∷ []) self.old self.new result }
         ensures empty { OnOk result (self.new.front.items ≡ []) }
     {
         let reply = self.core.answer(&self.front)?;
         self.front.clear();
         if let Some(reply) = reply {
-            put_reply(reply, &mut self.replies)?;
+            put_reply(&reply, &mut self.replies)?;
         }
         Ok(())
     }

@@ -4,7 +4,7 @@ use Rattle.plugd.proofs.SessionLemmas.{goes_on, takes_ok, takes_err, line_ended,
 use Rattle.plugd.proofs.session.Session.end_line.Goals as goal
 
 pub answer-requires : goal.answer-requires
-answer-requires g c = record { serving = goes_on c.args.self.now 1 c.requires }
+answer-requires g c = record { serving = goes_on c.args.self.now 1 c.requires.standing }
 
 pub returns-in_err-reply-clause-takes : goal.returns-in_err-reply-clause-takes
 returns-in_err-reply-clause-takes g c =

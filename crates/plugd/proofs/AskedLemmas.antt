@@ -1,0 +1,266 @@
+-- What a statement that is granted changes: it applies to the log's tables, it is the engine's, and the catalog goes on with the log.
+use Rattle.std.proofs.Common.{◌≡◌, ◌⊎◌, inl, inr, ℕ, List, [], ◌∷◌, ◌++◌, Option, Some, None, Bool, true, false, cond, refl, sym, ◌∙◌, ap, subst}
+use Rattle.std.specs.Prelude.{is_some, is_none, ◌||◌}
+use Rattle.std.specs.Str.{bytes_eq}
+use Rattle.std.specs.List.{list_any}
+use Rattle.std.proofs.lemmas.Slice.Eq.{bytes_eq-Decides}
+use Rattle.sql_value.specs.declared.value.Value.{Value}
+use Rattle.sql_value.specs.declared.refusal.Refusal.{Refusal}
+use Rattle.sql_value.specs.declared.refusal.Refusal.TheVariants.{NoSuchTable, UnknownEngine, DuplicateEntry, TableExists}
+use Rattle.row_format.specs.declared.schema.Schema.{Schema}
+use Rattle.row_format.specs.declared.change.TableMap.{TableMap}
+use Rattle.row_format.specs.declared.change.Transaction.{Transaction}
+use Rattle.row_format.specs.declared.change.Change.{Change}
+use Rattle.row_format.specs.declared.change.Change.TheVariants as change
+use Rattle.row_format.specs.Schemas.{same_schema}
+use Rattle.row_format.specs.Rows.{row_refusal, first_of_two}
+use Rattle.row_format.proofs.SameLemmas.{same_schema_refl}
+use Rattle.log_tables.specs.declared.table.Table.{Table}
+use Rattle.log_tables.specs.Keys.{inserted, in_key_order}
+use Rattle.log_tables.specs.Tables.{is_named, is_of, table_named, part_of, new_table, IsDictionary}
+use Rattle.log_tables.specs.Changes.{after_change, after_changes, installed_after, installed_change, installed_changes, tables_after, changed, with_rows, is_on, found_of, takes, rows_after, Applies, EachApplies, changes_on}
+use Rattle.log_tables.proofs.FoldLemmas.{IsDictionary-tables_after, tables_after-append, installed_after-append}
+use Rattle.log_tables.proofs.PartLemmas.{cases, cond_true, cond_false, table_named-part, free-part}
+use Rattle.engine_api.specs.Live.{schema_found, insert_into, is_taken_in, is_key_taken}
+use Rattle.plugd.specs.declared.command.Command.{Command}
+use Rattle.plugd.specs.declared.command.Command.TheVariants as command
+use Rattle.plugd.specs.Play.{is_prepared_for}
+use Rattle.plugd.specs.Serve.{IsCatalogOf}
+use Rattle.plugd.specs.Asked.{Catalog, after_command, after_some, engine_name, table_name, table_schema, row_of, change_by, refusal_of, refused_unless, full_unless_room, insert_refusal}
+
+true_false : true ≡ false → ⊥
+true_false e = cc
+
+none_some : {X : Type 0} {x : X} → None ≡ Some x → ⊥
+none_some e = cc
+
+some_same : {X : Type 0} {x y : X} → Some x ≡ Some y → x ≡ y
+some_same e = cc
+
+bytes_equal : (a b : List ℕ) → bytes_eq a b ≡ true → a ≡ b
+bytes_equal a b is = (bytes_eq-Decides a b).0 is
+
+bytes_refl : (a : List ℕ) → bytes_eq a a ≡ true
+bytes_refl a = (bytes_eq-Decides a a).1 refl
+
+-- a name that is another engine's is free in the part
+other_part : (e n : List ℕ) (ts : List Table) (x : Table) → IsDictionary ts → table_named n ts ≡ Some x → is_of e x ≡ false → table_named n (part_of e ts) ≡ None
+other_part e n [] x d found other = refl
+other_part e n (t ∷ ts) x d found other = elim (cases (is_named n t)) [
+  | inl here ↦
+      let same : t ≡ x = some_same (sym (cond_true (is_named n t) (Some t) (table_named n ts) here) ∙ found) in
+      let away : is_of e t ≡ false = ap (is_of e) same ∙ other in
+      let named : t.definition.table ≡ n = bytes_equal t.definition.table n here in
+      ap (table_named n) (cond_false (is_of e t) (t ∷ part_of e ts) (part_of e ts) away)
+      ∙ none_is (table_named n (part_of e ts)) (free-part e n ts (subst (λ (m : List ℕ). is_none (table_named m ts) ≡ true) named d.0))
+  | inr past ↦
+      let rest = other_part e n ts x d.1 (sym (cond_false (is_named n t) (Some t) (table_named n ts) past) ∙ found) other in
+      elim (cases (is_of e t)) as (λ _. table_named n (cond (is_of e t) (t ∷ part_of e ts) (part_of e ts)) ≡ None) [
+        | inl ours ↦
+            ap (table_named n) (cond_true (is_of e t) (t ∷ part_of e ts) (part_of e ts) ours)
+            ∙ cond_false (is_named n t) (Some t) (table_named n (part_of e ts)) past ∙ rest
+        | inr away ↦ ap (table_named n) (cond_false (is_of e t) (t ∷ part_of e ts) (part_of e ts) away) ∙ rest
+      ]
+]
+  where
+    none_is : {X : Type 0} (o : Option X) → is_none o ≡ true → o ≡ None
+    none_is None is = refl
+    none_is (Some y) is = cc
+
+-- A table that is found in an engine's part is found in all, and is the engine's.
+pub found_in_part : (e n : List ℕ) (ts : List Table) (x : Table) → IsDictionary ts → table_named n (part_of e ts) ≡ Some x → (table_named n ts ≡ Some x) × (is_of e x ≡ true)
+found_in_part e n ts x d found = go (table_named n ts) refl
+  where
+    go : (o : Option Table) → table_named n ts ≡ o → (table_named n ts ≡ Some x) × (is_of e x ≡ true)
+    go None is = absurd (no_some (table_named n (part_of e ts)) (free-part e n ts (ap is_none is)) found)
+      where
+        no_some : (o : Option Table) → is_none o ≡ true → o ≡ Some x → ⊥
+        no_some None a b = none_some b
+        no_some (Some y) a b = cc
+    go (Some y) is = elim (cases (is_of e y)) [
+      | inl ours ↦
+          let all = table_named-part e n ts (ap (found_of e) is ∙ ours) in
+          let same : y ≡ x = some_same (sym is ∙ sym all ∙ found) in
+          (sym all ∙ found, sym (ap (is_of e) same) ∙ ours)
+      | inr away ↦ absurd (none_some (sym (other_part e n ts y d is away) ∙ found))
+    ]
+
+-- an insert of a row applies to a table of its schema that has no row of its key
+takes_row : (schema : Schema) (row : List Value) (table : Table) → schema ≡ table.definition.schema → is_taken_in (Some table) row ≡ false
+    → takes (change.Insert (record { table = table_name; schema = schema }) row) (Some table) ≡ true
+takes_row schema row table is free =
+    ap is_some (cond_true (same_schema schema table.definition.schema) (inserted table.definition.schema.key row table.rows) None
+    (subst (λ (s : Schema). same_schema s table.definition.schema ≡ true) (sym is) (same_schema_refl table.definition.schema)))
+    ∙ added table.definition.schema.key free
+  where
+    added : (key : Option ℕ) → is_key_taken key table.rows row ≡ false → is_some (inserted key row table.rows) ≡ true
+    added None none = refl
+    added (Some column) none = ap is_some (cond_false (is_key_taken (Some column) table.rows row) None (Some (in_key_order column row table.rows)) none)
+
+-- what is not refused is refused by none of two reasons
+pub unless_none : (b : Bool) (refusal : Refusal) (rest : Option Refusal) → refused_unless b refusal rest ≡ None → rest ≡ None
+unless_none true refusal rest is = is
+unless_none false refusal rest is = absurd (none_some (sym is))
+
+-- the table of an insert that is granted, and that its key is free
+pub insert_granted : (made installed : Bool) (o : Option Table) (row : List Value) (after : List Table)
+    → refused_unless made NoSuchTable (refused_unless installed UnknownEngine (insert_refusal o row after)) ≡ None
+    → (table : Table) × (o ≡ Some table) × (is_taken_in (Some table) row ≡ false) × (row_refusal table.definition.schema row ≡ None)
+insert_granted false installed o row after is = absurd (none_some (sym is))
+insert_granted true false o row after is = absurd (none_some (sym is))
+insert_granted true true None row after is = absurd (none_some (sym is))
+insert_granted true true (Some table) row after all = fits (row_refusal table.definition.schema row) refl
+  where
+    is : first_of_two (row_refusal table.definition.schema row) (cond (is_taken_in (Some table) row) (Some DuplicateEntry) (full_unless_room after)) ≡ None
+    is = unless_none (same_schema table.definition.schema table_schema) NoSuchTable _ all
+
+    fits : (o : Option Refusal) → row_refusal table.definition.schema row ≡ o → (found : Table) × (Some table ≡ Some found) × (is_taken_in (Some found) row ≡ false) × (row_refusal found.definition.schema row ≡ None)
+    fits (Some refusal) at = absurd (none_some (sym is ∙ ap (λ (o : Option Refusal). first_of_two o (cond (is_taken_in (Some table) row) (Some DuplicateEntry) (full_unless_room after))) at))
+    fits None at = (table, refl, free (is_taken_in (Some table) row) refl, at)
+      where
+        left : cond (is_taken_in (Some table) row) (Some DuplicateEntry) (full_unless_room after) ≡ None
+        left = sym (ap (λ (o : Option Refusal). first_of_two o (cond (is_taken_in (Some table) row) (Some DuplicateEntry) (full_unless_room after))) at) ∙ is
+
+        free : (b : Bool) → is_taken_in (Some table) row ≡ b → is_taken_in (Some table) row ≡ false
+        free true taken = absurd (none_some (sym left ∙ cond_true (is_taken_in (Some table) row) (Some DuplicateEntry) (full_unless_room after) taken))
+        free false taken = taken
+
+-- a CREATE that is granted: the table is not there
+create_granted : (made installed there : Bool) (after : List Table) → cond (made || there) (Some TableExists) (refused_unless installed UnknownEngine (full_unless_room after)) ≡ None → made ≡ false
+create_granted true installed there after is = absurd (none_some (sym is))
+create_granted false installed there after is = refl
+
+not_there : {X : Type 0} (o : Option X) → is_some o ≡ false → is_none o ≡ true
+not_there None is = refl
+not_there (Some x) is = cc
+
+-- What a granted CREATE or INSERT changes is the engine's, and applies to the log's tables.
+pub granted_applies : (log : List Transaction) (here : Catalog) (asks : Command) (it : Change) → is_prepared_for asks ≡ true → IsCatalogOf log here → here.live ≡ part_of engine_name (tables_after log)
+    → change_by asks here ≡ Some it → refusal_of asks here ≡ None → (is_on engine_name it (tables_after log) ≡ true) × Applies it (tables_after log)
+granted_applies log here command.Settle it prepared is live makes granted = absurd (true_false (sym prepared))
+granted_applies log here command.Bad it prepared is live makes granted = absurd (true_false (sym prepared))
+granted_applies log here command.Install it prepared is live makes granted = absurd (true_false (sym prepared))
+granted_applies log here command.Create it prepared is live makes granted =
+    subst (λ (c : Change). (is_on engine_name c (tables_after log) ≡ true) × Applies c (tables_after log)) (some_same makes) (
+      bytes_refl engine_name,
+      not_there (table_named table_name (tables_after log)) (sym is.made ∙ create_granted here.made here.installed (is_some (table_named table_name here.live)) (after_command command.Create here).live granted),
+    )
+granted_applies log here (command.Insert key text) it prepared is live makes granted =
+    let row = row_of key text in
+    let found = insert_granted here.made here.installed (table_named table_name here.live) row (after_command (command.Insert key text) here).live granted in
+    let there = found_in_part engine_name table_name (tables_after log) found.0 (IsDictionary-tables_after log) (sym (ap (table_named table_name) live) ∙ found.1) in
+    let change_is : change.Insert (record { table = table_name; schema = found.0.definition.schema }) row ≡ it =
+    some_same (sym (ap (λ (o : Option Table). insert_into table_name (schema_found o) row) found.1) ∙ makes) in
+    subst (λ (c : Change). (is_on engine_name c (tables_after log) ≡ true) × Applies c (tables_after log)) change_is (
+      ap (found_of engine_name) there.0 ∙ there.1,
+      ap (takes (change.Insert (record { table = table_name; schema = found.0.definition.schema }) row)) there.0 ∙ takes_row found.0.definition.schema row found.0 refl found.2,
+    )
+
+-- the changes of the engine among it: it alone
+pub share_is : (e : List ℕ) (it : Change) (ts : List Table) → is_on e it ts ≡ true → changes_on e (it ∷ []) ts ≡ it ∷ []
+share_is e it ts on = cond_true (is_on e it ts) (it ∷ []) [] on
+
+-- an INSTALL is none of the engine's
+pub install_is_none : (e name : List ℕ) (ts : List Table) → (changes_on e (change.Install name ∷ []) ts ≡ []) × EachApplies e (change.Install name ∷ []) ts
+install_is_none e name ts = (refl, ((λ on. absurd (true_false (sym on))), tt))
+
+-- the tables and the installed engines of a log with one change more
+tables_more : (log : List Transaction) (t : Transaction) (it : Change) → t.changes ≡ it ∷ [] → tables_after (log ++ t ∷ []) ≡ after_change it (tables_after log)
+tables_more log t it is = tables_after-append log t ∙ ap (λ (cs : List Change). after_changes cs (tables_after log)) is
+
+installed_more : (log : List Transaction) (t : Transaction) (it : Change) → t.changes ≡ it ∷ [] → installed_after (log ++ t ∷ []) ≡ installed_change it (installed_after log)
+installed_more log t it is = installed_after-append log t ∙ ap (λ (cs : List Change). installed_changes cs (installed_after log)) is
+
+-- a table behind others is there
+table_appended : (engine : List ℕ) (schema : Schema) (l : List Table) → is_some (table_named table_name (l ++ new_table table_name engine schema ∷ [])) ≡ true
+table_appended engine schema [] = ap is_some (cond_true (bytes_eq table_name table_name) (Some (new_table table_name engine schema)) None (bytes_refl table_name))
+table_appended engine schema (x ∷ l) = elim (cases (is_named table_name x)) [
+  | inl here ↦ ap is_some (cond_true (is_named table_name x) (Some x) (table_named table_name (l ++ new_table table_name engine schema ∷ [])) here)
+  | inr past ↦ ap is_some (cond_false (is_named table_name x) (Some x) (table_named table_name (l ++ new_table table_name engine schema ∷ [])) past) ∙ table_appended engine schema l
+]
+
+-- a table that was made is there
+made_there : (ts : List Table) (engine : List ℕ) (schema : Schema) → is_some (table_named table_name (after_change (change.Create table_name engine schema) ts)) ≡ true
+made_there ts engine schema = go (is_some (table_named table_name ts)) refl
+  where
+    go : (b : Bool) → is_some (table_named table_name ts) ≡ b → is_some (table_named table_name (cond (is_some (table_named table_name ts)) ts (ts ++ new_table table_name engine schema ∷ []))) ≡ true
+    go true is = ap (λ (l : List Table). is_some (table_named table_name l)) (cond_true (is_some (table_named table_name ts)) ts (ts ++ new_table table_name engine schema ∷ []) is) ∙ is
+    go false is =
+        ap (λ (l : List Table). is_some (table_named table_name l)) (cond_false (is_some (table_named table_name ts)) ts (ts ++ new_table table_name engine schema ∷ []) is)
+        ∙ table_appended engine schema ts
+
+-- a row changes no name
+still_there : (n : List ℕ) (map : TableMap) (row : List Value) (ts : List Table) → is_some (table_named n (after_change (change.Insert map row) ts)) ≡ is_some (table_named n ts)
+still_there n map row [] = refl
+still_there n map row (t ∷ ts) = elim (cases (is_named map.table t)) [
+  | inl here ↦ ap (λ (l : List Table). is_some (table_named n l)) (cond_true (is_named map.table t) (changed (change.Insert map row) t ++ ts) (t ∷ after_change (change.Insert map row) ts) here) ∙ first (rows_after (change.Insert map row) t)
+  | inr past ↦
+      ap (λ (l : List Table). is_some (table_named n l)) (cond_false (is_named map.table t) (changed (change.Insert map row) t ++ ts) (t ∷ after_change (change.Insert map row) ts) past)
+      ∙ behind (still_there n map row ts) (cases (is_named n t))
+]
+  where
+    first : (o : Option (List (List Value))) → is_some (table_named n (with_rows t o ∷ ts)) ≡ is_some (table_named n (t ∷ ts))
+    first None = refl
+    first (Some rows) = go (cases (is_named n t))
+      where
+        go : (is_named n t ≡ true) ⊎ (is_named n t ≡ false) → is_some (table_named n (with_rows t (Some rows) ∷ ts)) ≡ is_some (table_named n (t ∷ ts))
+        go (inl here) = ap is_some (cond_true (is_named n t) (Some (with_rows t (Some rows))) (table_named n ts) here) ∙ sym (ap is_some (cond_true (is_named n t) (Some t) (table_named n ts) here))
+        go (inr past) = ap is_some (cond_false (is_named n t) (Some (with_rows t (Some rows))) (table_named n ts) past) ∙ sym (ap is_some (cond_false (is_named n t) (Some t) (table_named n ts) past))
+
+    behind : is_some (table_named n (after_change (change.Insert map row) ts)) ≡ is_some (table_named n ts) → (is_named n t ≡ true) ⊎ (is_named n t ≡ false) → is_some (table_named n (t ∷ after_change (change.Insert map row) ts)) ≡ is_some (table_named n (t ∷ ts))
+    behind rest (inl here) = ap is_some (cond_true (is_named n t) (Some t) (table_named n (after_change (change.Insert map row) ts)) here) ∙ sym (ap is_some (cond_true (is_named n t) (Some t) (table_named n ts) here))
+    behind rest (inr past) = ap is_some (cond_false (is_named n t) (Some t) (table_named n (after_change (change.Insert map row) ts)) past) ∙ rest ∙ sym (ap is_some (cond_false (is_named n t) (Some t) (table_named n ts) past))
+
+or_true : (b : Bool) → (b || true) ≡ true
+or_true true = refl
+or_true false = refl
+
+-- a name behind others is on the list
+name_appended : (l : List (List ℕ)) → list_any (bytes_eq engine_name) (l ++ engine_name ∷ []) ≡ true
+name_appended [] = ap (λ (b : Bool). b || false) (bytes_refl engine_name)
+name_appended (x ∷ l) = ap (λ (b : Bool). bytes_eq engine_name x || b) (name_appended l) ∙ or_true (bytes_eq engine_name x)
+
+-- an engine that was installed is on the list
+installed_there : (names : List (List ℕ)) → list_any (bytes_eq engine_name) (installed_change (change.Install engine_name) names) ≡ true
+installed_there names = go (list_any (bytes_eq engine_name) names) refl
+  where
+    go : (b : Bool) → list_any (bytes_eq engine_name) names ≡ b → list_any (bytes_eq engine_name) (cond (list_any (bytes_eq engine_name) names) names (names ++ engine_name ∷ [])) ≡ true
+    go true is = ap (list_any (bytes_eq engine_name)) (cond_true (list_any (bytes_eq engine_name) names) names (names ++ engine_name ∷ []) is) ∙ is
+    go false is = ap (list_any (bytes_eq engine_name)) (cond_false (list_any (bytes_eq engine_name) names) names (names ++ engine_name ∷ []) is) ∙ name_appended names
+
+-- The catalog goes on with the log.
+pub catalog_goes : (log : List Transaction) (t : Transaction) (here : Catalog) (asks : Command) (it : Change) → t.changes ≡ it ∷ [] → IsCatalogOf log here → change_by asks here ≡ Some it
+    → IsCatalogOf (log ++ t ∷ []) (after_command asks here)
+catalog_goes log t here command.Settle it one is makes = absurd (none_some makes)
+catalog_goes log t here command.Bad it one is makes = absurd (none_some makes)
+catalog_goes log t here command.Install it one is makes =
+    let it_is : it ≡ change.Install engine_name = sym (some_same makes) in
+    record {
+      made = is.made ∙ sym (ap (λ (l : List Table). is_some (table_named table_name l)) (tables_more log t it one ∙ ap (λ (c : Change). after_change c (tables_after log)) it_is));
+      installed = sym (ap (list_any (bytes_eq engine_name)) (installed_more log t it one ∙ ap (λ (c : Change). installed_change c (installed_after log)) it_is) ∙ installed_there (installed_after log));
+    }
+catalog_goes log t here command.Create it one is makes =
+    let it_is : it ≡ change.Create table_name engine_name table_schema = sym (some_same makes) in
+    record {
+      made = sym (ap (λ (l : List Table). is_some (table_named table_name l)) (tables_more log t it one ∙ ap (λ (c : Change). after_change c (tables_after log)) it_is) ∙ made_there (tables_after log) engine_name table_schema);
+      installed = is.installed ∙ sym (ap (list_any (bytes_eq engine_name)) (installed_more log t it one ∙ ap (λ (c : Change). installed_change c (installed_after log)) it_is));
+    }
+catalog_goes log t here (command.Insert key text) it one is makes = go (schema_found (table_named table_name here.live)) refl
+  where
+    go : (o : Option Schema) → schema_found (table_named table_name here.live) ≡ o → IsCatalogOf (log ++ t ∷ []) (after_command (command.Insert key text) here)
+    go None at = absurd (none_some (sym (ap (λ (o : Option Schema). insert_into table_name o (row_of key text)) at) ∙ makes))
+    go (Some schema) at =
+        let it_is : it ≡ change.Insert (record { table = table_name; schema = schema }) (row_of key text) = some_same (sym makes ∙ ap (λ (o : Option Schema). insert_into table_name o (row_of key text)) at) in
+        record {
+          made = is.made ∙ sym (ap (λ (l : List Table). is_some (table_named table_name l)) (tables_more log t it one ∙ ap (λ (c : Change). after_change c (tables_after log)) it_is)
+              ∙ still_there table_name (record { table = table_name; schema = schema }) (row_of key text) (tables_after log));
+          installed = is.installed ∙ sym (ap (list_any (bytes_eq engine_name)) (installed_more log t it one ∙ ap (λ (c : Change). installed_change c (installed_after log)) it_is));
+        }
+
+-- the tables that the engine has go on with the change
+pub live_goes : (here : Catalog) (asks : Command) (it : Change) → is_prepared_for asks ≡ true → change_by asks here ≡ Some it → (after_command asks here).live ≡ after_change it here.live
+live_goes here command.Settle it prepared makes = absurd (true_false (sym prepared))
+live_goes here command.Bad it prepared makes = absurd (true_false (sym prepared))
+live_goes here command.Install it prepared makes = absurd (true_false (sym prepared))
+live_goes here command.Create it prepared makes = ap (λ (o : Option Change). after_some o here.live) makes
+live_goes here (command.Insert key text) it prepared makes = ap (λ (o : Option Change). after_some o here.live) makes

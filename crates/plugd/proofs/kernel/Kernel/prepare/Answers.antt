@@ -1,0 +1,20 @@
+use Rattle.std.proofs.Common.{rules, [], ◌∷◌, refl}
+use Rattle.engine_api.specs.declared.fault.Code.TheVariants.{Full}
+use Rattle.plugd.proofs.PrepareLemmas.{prepares_done, prepares_full, prepares_halted, prepares_err}
+use Rattle.plugd.proofs.kernel.Kernel.prepare.Goals as goal
+
+pub returns-in-Ok-clause-prepares : goal.returns-in-Ok-clause-prepares
+returns-in-Ok-clause-prepares g c =
+    prepares_done c.args.xid _ c.in-Ok.field-0 _ _ _ _ _ c.in-Ok.ensures.same c.in-Ok.ensures.turns
+
+pub returns-in-Err-Code-clause-prepares : goal.returns-in-Err-Code-clause-prepares
+returns-in-Err-Code-clause-prepares g c =
+    prepares_full c.args.xid _ c.in-Err-Code.field-0 c.in-Err-Code.field-0-0 _ _ _ _ _ c.in-Err-Code.ensures.same c.in-Err-Code.ensures.turns c.in-Err-Code.field-0-is
+
+pub returns-in_ok-cause-in-Err-clause-prepares : goal.returns-in_ok-cause-in-Err-clause-prepares
+returns-in_ok-cause-in-Err-clause-prepares g c =
+    prepares_halted c.args.xid _ c.in-Err.fault (Full ∷ []) c.in_ok-cause-in-Err.cause _ _ _ _ _ c.in-Err.ensures.same c.in-Err.ensures.turns c.in_ok-cause-in-Err.ensures.some (c.in-Err.ensures.answers c.in-Err.fault refl)
+
+pub returns-in_err-cause-in-Err-clause-prepares : goal.returns-in_err-cause-in-Err-clause-prepares
+returns-in_err-cause-in-Err-clause-prepares g c =
+    prepares_err c.from_residual.result (search rules) c.args.xid _ c.in-Err.fault _ _ _ _ _ c.in-Err.ensures.same c.in-Err.ensures.turns c.in_err-cause-in-Err.ensures.none

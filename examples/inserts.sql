@@ -1,2 +1,0 @@
-@1 INSERT INTO t VALUES (1, 'x')
-@1 INSERT INTO t VALUES (2, 'x')
