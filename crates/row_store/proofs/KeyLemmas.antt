@@ -1,0 +1,154 @@
+-- Rows found by binary search, and where a row goes among rows in key order.
+use Rattle.std.proofs.Common.{◌≡◌, ◌≢◌, ◌⊎◌, inl, inr, ℕ, ◌<◌, ◌≤◌, zero, suc, List, [], ◌∷◌, length, get_or, Option, Some, None, true, false, refl, sym, ap, ◌∙◌, arith, subst}
+use Rattle.std.specs.Prelude.{is_some, nat_eq}
+use Rattle.std.specs.List.{insert, remove}
+use Rattle.std.specs.List.Sorted.{IsPartitionedBy, IsPartitionPoint}
+use Rattle.std.specs.Ordering.{is_lt, is_eq, ordering_reverse, ordering_index}
+use Rattle.std.specs.declared.cmp.Ordering.{Ordering}
+use Rattle.std.specs.declared.cmp.Ordering.TheVariants.{Less, Equal, Greater}
+use Rattle.std.proofs.lemmas.Bool.{cases_order, cond-true, cond-false}
+use Rattle.std.proofs.lemmas.List.{get_or-map}
+use Rattle.std.proofs.lemmas.List.Edits.{insert_end}
+use Rattle.std.proofs.lemmas.Option.{slice_get-get_or}
+use Rattle.sql_value.specs.declared.value.Value.{Value}
+use Rattle.sql_value.specs.Values.{value_cmp}
+use Rattle.sql_value.proofs.OrderLemmas.{value_cmp_total}
+use Rattle.sql_value.proofs.SameLemmas.{less, less-other, same_value-is_eq, same_value_refl}
+use Rattle.log_tables.specs.Keys.{key_in, has_key, row_with, IsInKeyOrder, IsPlaceFor, IsOrdered}
+use Rattle.log_tables.proofs.OrderLemmas.{IsInKeyOrder-without_key}
+use Rattle.log_tables.proofs.PlaceLemmas.{rises, place_from, place-free, taken_at, inserted-place, inserted-taken, without_key-at}
+use Rattle.row_store.specs.Slots.{row_in, rows_in}
+use Rattle.row_store.specs.Rows.{is_key_below, AreParted, Finds, Takes, IsAtKey}
+
+-- The rows with lower keys stand before the others.
+pub rows_partitioned : (column : ℕ) (key : Value) (rows : List (List Value)) → IsInKeyOrder column rows → IsPartitionedBy (is_key_below column key) rows
+rows_partitioned column key rows ordered = λ i j d before within low. go i j d before within low (cases_order i j)
+  where
+    go : (i j : ℕ) (d : List Value) → i ≤ j → j < length rows → is_key_below column key (get_or rows j d) ≡ true → (i ≡ j) ⊎ ((i < j) ⊎ (j < i)) → is_key_below column key (get_or rows i d) ≡ true
+    go i j d before within low (inl same) = subst (λ k. is_key_below column key (get_or rows k d) ≡ true) (sym same) low
+    go i j d before within low (inr (inl less_than)) =
+        let rise = rises column rows i j d ordered less_than within in
+        let below = less (value_cmp (key_in column (get_or rows j d)) key) low in
+        ap is_lt (value_cmp_total.trans (key_in column (get_or rows i d)) (key_in column (get_or rows j d)) key rise below)
+    go i j d before within low (inr (inr more)) = absurd (omega arith)
+
+greater : (o : Ordering) → is_lt o ≡ false → o ≢ Equal → ordering_reverse o ≡ Less
+greater Less low other = cc
+greater Equal low other = absurd (other refl)
+greater Greater low other = refl
+
+-- Where the rows with lower keys end, and the next does not have this key, is the place for it.
+pub place_found : (column : ℕ) (key : Value) (rows : List (List Value)) (place : ℕ) → AreParted column key rows place → place ≤ length rows
+    → (place < length rows → value_cmp (key_in column (get_or rows place [])) key ≢ Equal) → IsPlaceFor column key rows place
+place_found column key rows place point within other =
+    place_from column key rows place [] (omega arith)
+    (λ k h. less (value_cmp (key_in column (get_or rows k [])) key) (point.0 k [] (omega arith) h))
+    (λ h.
+    value_cmp_total.antisymm key (key_in column (get_or rows place []))
+    ∙ greater (value_cmp (key_in column (get_or rows place [])) key) (point.1 place [] (omega arith) (omega arith)) (other (omega arith)))
+
+-- Where a row has this key, it is taken.
+pub key_found : (column : ℕ) (key : Value) (rows : List (List Value)) (place : ℕ) → place < length rows
+    → value_cmp (key_in column (get_or rows place [])) key ≡ Equal → is_some (row_with column key rows) ≡ true
+key_found column key rows place within same =
+    taken_at column key rows place [] within (same_value-is_eq (key_in column (get_or rows place [])) key ∙ ap is_eq same)
+
+pub is_equal : (o : Ordering) → nat_eq (ordering_index o) 1 ≡ true → o ≡ Equal
+is_equal Less h = cc
+is_equal Equal h = refl
+is_equal Greater h = cc
+
+pub is_other : (o : Ordering) → nat_eq (ordering_index o) 1 ≡ false → o ≢ Equal
+is_other Less h = λ e. cc
+is_other Equal h = cc
+is_other Greater h = λ e. cc
+
+-- Where a row goes in key order is where it goes.
+pub place_taken : (row : List Value) (rows : List (List Value)) (column : ℕ) (place : Option ℕ) → IsInKeyOrder column rows → Finds column (key_in column row) rows place
+    → Takes (Some column) row rows place
+place_taken row rows column (Some i) ordered found = inserted-place column row rows i ordered found
+place_taken row rows column None ordered found = inserted-taken column row rows found
+
+-- Where the next row does not have the key, none has it.
+pub no_row : (column : ℕ) (key : Value) (rows : List (List Value)) (place : ℕ) → IsInKeyOrder column rows → AreParted column key rows place → place ≤ length rows
+    → (place < length rows → value_cmp (key_in column (get_or rows place [])) key ≢ Equal) → row_with column key rows ≡ None
+no_row column key rows place ordered point within other =
+    place-free column key rows place ordered (place_found column key rows place point within other)
+
+first_with : (column : ℕ) (key : Value) (rows : List (List Value)) (place : ℕ) → place < length rows → ((k : ℕ) → k < place → has_key column key (get_or rows k []) ≡ false)
+    → has_key column key (get_or rows place []) ≡ true → row_with column key rows ≡ Some (get_or rows place [])
+first_with column key [] place within others here = absurd (omega arith)
+first_with column key (r ∷ rs) zero within others here = cond-true (has_key column key r) (Some r) (row_with column key rs) here
+first_with column key (r ∷ rs) (suc place) within others here =
+    cond-false (has_key column key r) (Some r) (row_with column key rs) (others 0 (omega arith)) ∙ first_with column key rs place (omega arith) (λ k h. others (suc k) (omega arith)) here
+
+-- Where the next row has the key, it is the row.
+pub first_row : (column : ℕ) (key : Value) (rows : List (List Value)) (place : ℕ) → AreParted column key rows place → place < length rows
+    → value_cmp (key_in column (get_or rows place [])) key ≡ Equal → row_with column key rows ≡ Some (get_or rows place [])
+first_row column key rows place point within same =
+    first_with column key rows place within
+    (λ k h. less-other (key_in column (get_or rows k [])) key (less (value_cmp (key_in column (get_or rows k [])) key) (point.0 k [] (omega arith) h)))
+    (same_value-is_eq (key_in column (get_or rows place [])) key ∙ ap is_eq same)
+
+-- A row goes back where it was taken out.
+pub put_back : (rows : List (List Value)) (i : ℕ) (d : List Value) → i < length rows → insert (remove rows i) i (get_or rows i d) ≡ rows
+put_back [] i d within = absurd (omega (arith, within))
+put_back (r ∷ rs) zero d within = refl
+put_back (r ∷ rs) (suc i) d within = ap (λ (l : List (List Value)). r ∷ l) (put_back rs i d (omega (arith, within)))
+
+-- Without one row, the rows are in order.
+pub in_order_without : (column : ℕ) (rows : List (List Value)) (i : ℕ) → IsInKeyOrder column rows → i < length rows → IsInKeyOrder column (remove rows i)
+in_order_without column rows i ordered within =
+    let key = key_in column (get_or rows i []) in
+    subst (IsInKeyOrder column) (without_key-at column key rows i [] ordered within (same_value_refl key)) (IsInKeyOrder-without_key column key rows ordered)
+
+abbrev pub Slots : Type 0
+Slots = List (Option (List Value))
+
+-- a row in the order of the slots is the one of the slot there
+pub row_there : (slots : Slots) (order : List ℕ) (i slot : ℕ) → i < length order → get_or order i 0 ≡ slot → get_or (rows_in slots order) i [] ≡ row_in slots slot
+row_there slots order i slot lt is = get_or-map (row_in slots) order i 0 [] lt ∙ ap (row_in slots) is
+
+pub rows_length : (slots : Slots) (order : List ℕ) → length (rows_in slots order) ≡ length order
+rows_length slots [] = refl
+rows_length slots (it ∷ rest) = ap suc (rows_length slots rest)
+
+-- the slots of rows with lower keys stand before the others
+pub order_partitioned : (slots : Slots) (column : ℕ) (key : Value) (order : List ℕ) → IsInKeyOrder column (rows_in slots order) → IsPartitionedBy (λ s. is_key_below column key (row_in slots s)) order
+order_partitioned slots column key order ordered = λ i j d before lt low.
+    let rows = rows_in slots order in
+    let size = rows_length slots order in
+    let is = is_key_below column key in
+    let low₂ : is (get_or rows j []) ≡ true = ap is (get_or-map (row_in slots) order j d [] lt) ∙ low in
+    ap is (sym (get_or-map (row_in slots) order i d [] (omega (arith, before, lt)))) ∙ rows_partitioned column key rows ordered i j [] before (omega (arith, lt, size)) low₂
+
+-- so are the rows
+pub rows_parted : (slots : Slots) (column : ℕ) (key : Value) (order : List ℕ) (count : ℕ) → count ≤ length order
+    → IsPartitionPoint (λ s. is_key_below column key (row_in slots s) ≡ true) (λ s. is_key_below column key (row_in slots s) ≡ false) order count → AreParted column key (rows_in slots order) count
+rows_parted slots column key order count within point =
+    let is = is_key_below column key in (
+      λ k d low high. ap is (get_or-map (row_in slots) order k 0 d (omega (arith, high, within))) ∙ point.0 k 0 low high,
+      λ k d low high.
+          let size = rows_length slots order in
+          let lt : k < length order = omega (arith, high, size) in
+          ap is (get_or-map (row_in slots) order k 0 d lt) ∙ point.1 k 0 low lt,
+    )
+
+-- how the key of the row at a place stands to a value
+pub order_there : (slots : Slots) (order : List ℕ) (column : ℕ) (key : Value) (i slot : ℕ) (o : Ordering) → i < length order → get_or order i 0 ≡ slot → o ≡ value_cmp (key_in column (row_in slots slot)) key
+    → value_cmp (key_in column (get_or (rows_in slots order) i [])) key ≡ o
+order_there slots order column key i slot o lt at is = ap (λ (r : List Value). value_cmp (key_in column r) key) (row_there slots order i slot lt at) ∙ sym is
+
+-- the row with a key stands there
+pub at_key : (column : ℕ) (key : Value) (rows : List (List Value)) (i : ℕ) → AreParted column key rows i → i < length rows → value_cmp (key_in column (get_or rows i [])) key ≡ Equal → IsAtKey (Some column) key rows (Some i)
+at_key column key rows i point within same = (get_or rows i [], slice_get-get_or rows i [] within, first_row column key rows i point within same)
+
+-- where a row goes in a table
+pub takes_by_key : (table : Option ℕ) (column : ℕ) (row : List Value) (rows : List (List Value)) (place : Option ℕ) → table ≡ Some column → (IsInKeyOrder column rows → Finds column (key_in column row) rows place) → IsOrdered table rows
+    → Takes table row rows place
+takes_by_key table column row rows place keyed found =
+    subst (λ (t : Option ℕ). IsOrdered t rows → Takes t row rows place) (sym keyed) (λ ordered. place_taken row rows column place ordered (found ordered))
+
+-- at the end, where there is no key
+pub takes_at_end : (table : Option ℕ) (row : List Value) (rows : List (List Value)) (n : ℕ) → table ≡ None → n ≡ length rows → Takes table row rows (Some n)
+takes_at_end table row rows n keyed is = subst (λ (t : Option ℕ). Takes t row rows (Some n)) (sym keyed) (ap (λ (l : List (List Value)). Some l) (sym (insert_end rows row) ∙ ap (λ (k : ℕ). insert rows k row) (sym is)))

@@ -1,0 +1,5 @@
+pub mod SlotLemmas
+pub mod KeyLemmas
+pub mod EditLemmas
+pub mod KeptLemmas
+pub mod TurnLemmas

@@ -1,0 +1,120 @@
+//! Rows by key: a row is found by binary search, over slots that are read in key order.
+ghost use Rattle.std.specs.Prelude.{◌≡◌, ◌≤◌, ◌<◌, length, IfSome, Some};
+ghost use Rattle.sql_value.specs.Values.{value_cmp};
+ghost use Rattle.log_tables.specs.Keys.{key_in, IsInKeyOrder, IsOrdered};
+ghost use Rattle.row_store.specs.Slots.{row_in as row_of, rows_in};
+ghost use Rattle.row_store.specs.Rows.{AreParted, Finds, Takes, IsAtKey};
+
+use crate::slots::row_in;
+use row_format::{Row, Value};
+use sql_value::value_order;
+use std::cmp::Ordering;
+
+// How the key of a row stands to a value.
+fn row_order(row: &Row, column: usize, key: &Value) -> Ordering
+    ensures { result ≡ value_cmp (key_in column row.now) key.now }
+{
+    match row.values().get(column) {
+        Some(found) => value_order(found, key),
+        None => value_order(&Value::Null, key),
+    }
+}
+
+// How the key of the row in a slot stands to a value.
+fn key_order(slots: &[Option<Row>], slot: u32, column: usize, key: &Value) -> Ordering
+    ensures { result ≡ value_cmp (key_in column (row_of slots.now slot)) key.now }
+{
+    match row_in(slots, slot) {
+        Some(row) => row_order(row, column, key),
+        None => value_order(&Value::Null, key),
+    }
+}
+
+// How many of the rows, from the first, have lower keys, where they are in key order.
+fn count_below(slots: &[Option<Row>], order: &[u32], column: usize, key: &Value) -> usize
+    ensures within { result ≤ length order.now }
+    ensures parted { IsInKeyOrder column (rows_in slots.now order.now)
+        → AreParted column key.now (rows_in slots.now order.now) result }
+{
+    order.partition_point(|slot| key_order(slots, *slot, column, key) == Ordering::Less)
+}
+
+// Where a row with this key goes among rows in key order; None where one of them has it.
+fn place_for(slots: &[Option<Row>], order: &[u32], column: usize, key: &Value) -> Option<usize>
+    ensures within { IfSome result (λ i. i ≤ length order.now) }
+    ensures found { IsInKeyOrder column (rows_in slots.now order.now)
+        → Finds column key.now (rows_in slots.now order.now) result }
+{
+    let i = count_below(slots, order, column, key);
+    match order.get(i) {
+        None => Some(i),
+        Some(slot) => {
+            if key_order(slots, *slot, column, key) == Ordering::Equal {
+                None
+            } else {
+                Some(i)
+            }
+        }
+    }
+}
+
+// Where a row goes among rows in key order; None where one of them has its key.
+fn place_of(slots: &[Option<Row>], order: &[u32], column: usize, row: &Row) -> Option<usize>
+    ensures within { IfSome result (λ i. i ≤ length order.now) }
+    ensures found { IsInKeyOrder column (rows_in slots.now order.now)
+        → Finds column (key_in column row.now) (rows_in slots.now order.now) result }
+{
+    match row.values().get(column) {
+        Some(key) => place_for(slots, order, column, key),
+        None => place_for(slots, order, column, &Value::Null),
+    }
+}
+
+/// Where a row goes, in key order or at the end; None where a row has its key.
+pub(crate) fn place_in(
+    key: Option<u8>,
+    slots: &[Option<Row>],
+    order: &[u32],
+    row: &Row,
+) -> Option<usize>
+    ensures within { IfSome result (λ i. i ≤ length order.now) }
+    ensures found { IsOrdered key (rows_in slots.now order.now)
+        → Takes key row.now (rows_in slots.now order.now) result }
+{
+    match key {
+        Some(column) => place_of(slots, order, column as usize, row),
+        None => Some(order.len()),
+    }
+}
+
+// Where the row with this key stands among rows in key order; None where none has it.
+fn place_with(slots: &[Option<Row>], order: &[u32], column: usize, key: &Value) -> Option<usize>
+    ensures within { IfSome result (λ i. i < length order.now) }
+    ensures found { IsInKeyOrder column (rows_in slots.now order.now)
+        → IsAtKey (Some column) key.now (rows_in slots.now order.now) result }
+{
+    let i = count_below(slots, order, column, key);
+    let slot = order.get(i)?;
+    if key_order(slots, *slot, column, key) == Ordering::Equal {
+        Some(i)
+    } else {
+        None
+    }
+}
+
+/// Where the row with this key stands; None where none has it, or there is no key.
+pub(crate) fn place_at(
+    key: Option<u8>,
+    slots: &[Option<Row>],
+    order: &[u32],
+    wanted: &Value,
+) -> Option<usize>
+    ensures within { IfSome result (λ i. i < length order.now) }
+    ensures found { IsOrdered key (rows_in slots.now order.now)
+        → IsAtKey key wanted.now (rows_in slots.now order.now) result }
+{
+    match key {
+        Some(column) => place_with(slots, order, column as usize, wanted),
+        None => None,
+    }
+}

@@ -1,0 +1,16 @@
+//! The rows of one table, in key order or as they were inserted.
+//!
+//! One idea makes it right: a row stays in the slot that it came into, and a list of small numbers says in which order the slots are read.
+//! So a row that comes or goes moves numbers and no rows, and room that was made beforehand serves whichever row comes.
+//!
+//! It stands on `row_format` (rows and schemas) and `log_tables` (what a row change makes of rows).
+#![tactic(auto)]
+
+mod edits;
+mod keys;
+mod slots;
+mod table;
+#[cfg(test)]
+mod tests;
+
+pub use table::RowTable;

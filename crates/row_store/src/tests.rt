@@ -1,0 +1,184 @@
+//! Rows that were worked out by hand, and many calls beside a plain list.
+use crate::RowTable;
+use row_format::{Column, Columns, Kind, Name, Row, Schema, Text, Value};
+use std::alloc::{AllocError, Global};
+use std::test::Fail;
+
+// A table can be sent to another thread.
+fn is_send<T: Send>(_: &T) {}
+
+fn column(alloc: Global, letter: u8, kind: Kind) -> Result<Column, Fail> {
+    match Name::new([letter].to_vec(alloc)?) {
+        Ok(name) => Ok(Column {
+            name,
+            kind,
+            nullable: false,
+        }),
+        Err(_) => Err(Fail::from(AllocError)),
+    }
+}
+
+// A table of a number and a text, with this key column.
+fn table(alloc: Global, key: Option<u8>) -> Result<RowTable, Fail> {
+    let mut columns = Vec::new(alloc);
+    columns.push(column(alloc, b'k', Kind::BigInt)?)?;
+    columns.push(column(alloc, b'v', Kind::VarChar(10))?)?;
+    let columns = Columns::new(columns);
+    Ok(RowTable::new(Schema { columns, key }, alloc))
+}
+
+fn row(alloc: Global, key: i64, letter: u8) -> Result<Row, AllocError> {
+    let mut values = Vec::new(alloc);
+    values.push(Value::Int(key))?;
+    values.push(Value::Text(Text::new([letter].to_vec(alloc)?)))?;
+    Ok(Row::new(values))
+}
+
+// The number in the first column.
+fn key_of(row: &Row) -> i64 {
+    match row.values().first() {
+        Some(Value::Int(key)) => *key,
+        _ => -1,
+    }
+}
+
+// The numbers of all rows, in order.
+fn keys_of(alloc: Global, table: &RowTable) -> Result<Vec<i64>, AllocError> {
+    let mut keys = Vec::new(alloc);
+    for place in 0..table.len().min(1_000) {
+        if let Some(row) = table.at_place(place as u32) {
+            keys.push(key_of(row))?;
+        }
+    }
+    Ok(keys)
+}
+
+// Adds a row where its key is free, and tells its place.
+fn add(table: &mut RowTable, row: Row) -> Result<Option<u32>, AllocError> {
+    if table.len() >= 1_000 {
+        return Err(AllocError);
+    }
+    table.reserve(1)?;
+    Ok(table.insert(row).ok())
+}
+
+// Puts a row in place of another; None where there is no such place, else whether the key was free.
+fn put(table: &mut RowTable, place: u32, row: Row) -> Option<bool> {
+    if (place as usize) < table.len() {
+        Some(table.replace(place, row).is_ok())
+    } else {
+        None
+    }
+}
+
+// Takes a row out, if there is one at this place.
+fn take(table: &mut RowTable, place: u32) -> Option<i64> {
+    if (place as usize) < table.len() {
+        Some(key_of(&table.remove(place)))
+    } else {
+        None
+    }
+}
+
+#[test]
+fn rows_stand_in_key_order(rt: HostRuntime) -> Result<(), Fail> {
+    let alloc = rt.alloc();
+    let mut rows = table(alloc, Some(0))?;
+    is_send(&rows);
+    assert_eq!(rt; add(&mut rows, row(alloc, 3, b'a')?)?, Some(0));
+    assert_eq!(rt; add(&mut rows, row(alloc, 1, b'b')?)?, Some(0));
+    assert_eq!(rt; add(&mut rows, row(alloc, 2, b'c')?)?, Some(1));
+    assert_eq!(rt; add(&mut rows, row(alloc, 2, b'd')?)?, None);
+    assert!(rt; keys_of(alloc, &rows)?.as_slice() == [1, 2, 3].as_slice());
+    assert_eq!(rt; rows.at_key(&Value::Int(3)), Some(2));
+    assert_eq!(rt; rows.at_key(&Value::Int(4)), None);
+    assert_eq!(rt; put(&mut rows, 0, row(alloc, 5, b'e')?), Some(true));
+    assert!(rt; keys_of(alloc, &rows)?.as_slice() == [2, 3, 5].as_slice());
+    assert_eq!(rt; put(&mut rows, 0, row(alloc, 5, b'f')?), Some(false));
+    assert_eq!(rt; put(&mut rows, 1, row(alloc, 3, b'g')?), Some(true));
+    assert!(rt; keys_of(alloc, &rows)?.as_slice() == [2, 3, 5].as_slice());
+    assert_eq!(rt; take(&mut rows, 1), Some(3));
+    assert!(rt; keys_of(alloc, &rows)?.as_slice() == [2, 5].as_slice());
+    assert!(rt; rows.at_place(2).is_none());
+    Ok(())
+}
+
+#[test]
+fn rows_without_a_key_stand_as_they_came(rt: HostRuntime) -> Result<(), Fail> {
+    let alloc = rt.alloc();
+    let mut rows = table(alloc, None)?;
+    for key in [3, 1, 3] {
+        assert!(rt; add(&mut rows, row(alloc, key, b'a')?)?.is_some());
+    }
+    assert!(rt; keys_of(alloc, &rows)?.as_slice() == [3, 1, 3].as_slice());
+    assert_eq!(rt; rows.at_key(&Value::Int(3)), None);
+    assert_eq!(rt; put(&mut rows, 1, row(alloc, 7, b'b')?), Some(true));
+    assert_eq!(rt; take(&mut rows, 0), Some(3));
+    assert!(rt; keys_of(alloc, &rows)?.as_slice() == [7, 3].as_slice());
+    Ok(())
+}
+
+#[test]
+fn what_was_taken_out_goes_back_without_room_made_for_it(rt: HostRuntime) -> Result<(), Fail> {
+    let alloc = rt.alloc();
+    let columns = Columns::new(Vec::new(alloc));
+    let mut rows = RowTable::new(Schema { columns, key: None }, alloc);
+    rows.reserve(2)?;
+    assert_eq!(rt; rows.spare(), 2);
+    assert!(rt; rows.insert(row(alloc, 4, b'a')?).is_ok());
+    assert_eq!(rt; (rows.len(), rows.spare()), (1, 1));
+    let before = take(&mut rows, 0);
+    assert_eq!(rt; (before, rows.len(), rows.spare()), (Some(4), 0, 2));
+    put_back(&mut rows, row(alloc, 4, b'a')?);
+    assert_eq!(rt; (rows.len(), rows.spare()), (1, 1));
+    Ok(())
+}
+
+// Puts a row at the front of a table that has no key, where there is room.
+fn put_back(table: &mut RowTable, row: Row) {
+    if table.schema().key.is_none() && table.spare() > 0 && table.len() < 1_000 {
+        table.insert_at(0, row);
+    }
+}
+
+// Adds a number to a plain list in order; where it goes, if it is not there.
+fn add_plain(keys: &mut Vec<i64>, key: i64) -> Result<Option<usize>, AllocError> {
+    let mut place = 0;
+    for (i, it) in keys.iter().enumerate() {
+        if *it == key {
+            return Ok(None);
+        }
+        if *it < key {
+            place = i + 1;
+        }
+    }
+    let place = place.min(keys.len());
+    keys.insert(place, key)?;
+    Ok(Some(place))
+}
+
+#[test]
+fn many_calls_do_what_a_plain_list_does(rt: HostRuntime) -> Result<(), Fail> {
+    let alloc = rt.alloc();
+    let mut rows = table(alloc, Some(0))?;
+    let mut plain: Vec<i64> = Vec::new(alloc);
+    let mut seed = 12_345u32;
+    for round in 0..400 {
+        seed = seed.wrapping_mul(1_664_525).wrapping_add(1_013_904_223);
+        let key = i64::from(seed >> 24);
+        if seed & 3 == 0 && !plain.is_empty() {
+            let place = (key as usize).min(plain.len() - 1);
+            let was = plain.remove(place);
+            assert_eq!(rt; take(&mut rows, place as u32), Some(was), "round {round}");
+        } else {
+            let wanted = add_plain(&mut plain, key)?;
+            let place = add(&mut rows, row(alloc, key, b'a')?)?;
+            assert_eq!(rt; place.map(|it| it as usize), wanted, "round {round}");
+        }
+        assert!(rt;
+            keys_of(alloc, &rows)?.as_slice() == plain.as_slice(),
+            "round {round}"
+        );
+    }
+    Ok(())
+}
