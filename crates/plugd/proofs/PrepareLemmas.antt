@@ -1,5 +1,5 @@
 -- The prepare of a statement, by its answer.
-use Rattle.std.proofs.Common.{◌≡◌, ℕ, List, [], ◌∷◌, ◌++◌, Some, None, Bool, true, false, Result, Ok, Err, sym, ◌∙◌, ap, subst}
+use Rattle.std.proofs.Common.{◌≡◌, ℕ, List, [], ◌∷◌, ◌++◌, Some, None, Bool, true, false, Result, Ok, Err, refl, sym, ◌∙◌, ap, subst}
 use Rattle.std.specs.Prelude.{IsErr}
 use Rattle.std.specs.declared.alloc.AllocError.{AllocError}
 use Rattle.disk_model.specs.File.{File}
@@ -13,7 +13,9 @@ use Rattle.engine_api.specs.declared.flags.Flags.{Flags}
 use Rattle.engine_api.specs.States.{Kind, EngineState, begun_state, with_change, prepared_state}
 use Rattle.engine_api.specs.Live.{is_under}
 use Rattle.engine_api.specs.Reads.{Reading}
-use Rattle.engine_api.specs.Calls.{IsSame, IsRefused, MayCome, GoesOn as EngineGoesOn, Turns}
+use Rattle.engine_api.specs.Calls.{IsSame, IsRefused, MayCome, AnswersOnly, GoesOn as EngineGoesOn, Turns}
+use Rattle.engine_api.specs.declared.fault.Code.TheVariants.{Full}
+use Rattle.volume_rules.proofs.ListLemmas.{only_one}
 use Rattle.plugd.specs.declared.command.Command.{Command}
 use Rattle.plugd.specs.declared.reply.HaltCause.{HaltCause}
 use Rattle.plugd.specs.Serve.{session}
@@ -133,3 +135,7 @@ prepares_err r is_err xid core {T = T} found after kind reading holds disk same 
           (turned_ahead past idle (past.state.given ++ xid ∷ []) core {T = T} found (prepared_state session xid core.engine.state) after kind reading holds disk idle.gist (after_prepare (share xid it) idle.gist)
           (prepare_turned past idle asks it xid core {T = T} (Err found) after kind reading holds disk is same turns) none);
     }) r is_err
+
+-- the journal has no room where a prepare is refused
+pub spent_where_full : {T S : Type 0} (files : List ℕ) (told : Bool) (found : EngineFault) (code : Code) → found ≡ fault.Code code → AnswersOnly {T = T} (Full ∷ []) files told (Err found) → (found ≡ fault.Code Full → S) → S
+spent_where_full files told found code is answers full = full (is ∙ ap (λ (c : Code). fault.Code c) (only_one Full code (subst (MayCome (Full ∷ []) files told) is (answers found refl))))

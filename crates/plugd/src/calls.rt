@@ -118,6 +118,7 @@ pub(crate) fn prepare(
         (prepared_state session xid (state engine.old))
         (state engine.old) (state engine.new) (holds engine.new)
         (disk storage.old) (disk storage.new) }
+    ensures full { result ≡ Err (code Full) → IsTrue (is_spent engine.old session xid) }
     ensures answers { AnswersOnly (Full ∷ []) (kind engine.old).files
         (disk storage.old).told result }
 {

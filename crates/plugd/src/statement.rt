@@ -9,6 +9,8 @@ ghost use Rattle.engine_api.specs.Calls.{IsSame};
 ghost use Rattle.engine_api.specs.declared.fault.EngineFault.TheVariants.{Code as code};
 ghost use Rattle.plugd.specs.declared.reply.HaltCause.{HaltCause as Cause};
 ghost use Rattle.plugd.specs.declared.statement.Executed.TheVariants as executed;
+ghost use Rattle.plugd.specs.declared.statement.Prepared.TheVariants as prepared;
+ghost use Rattle.plugd.specs.Serve.{session};
 ghost use Rattle.plugd.specs.declared.command.Command.TheVariants.{Install, Create, Insert};
 ghost use Rattle.plugd.specs.Play.{IsStatement, is_prepared_for};
 ghost use Rattle.std.specs.Option.{option_copied};
@@ -258,6 +260,8 @@ impl Kernel {
         ensures same { IsSame (kind self.old.engine) (kind self.new.engine)
             (reading self.old.engine) (reading self.new.engine) }
         ensures server { self.new.server ≡ self.old.server }
+        ensures full { result ≡ Ok prepared.Full
+            → IsTrue (is_spent self.old.engine session xid) }
         ensures prepares { Prepares xid (⟦<Kernel as AtWork>⟧.core_of self.old)
             (⟦<Kernel as AtWork>⟧.core_of self.new) result }
     {

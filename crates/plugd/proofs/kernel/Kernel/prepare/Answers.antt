@@ -1,6 +1,6 @@
-use Rattle.std.proofs.Common.{rules, [], ◌∷◌, refl}
+use Rattle.std.proofs.Common.{rules, [], ◌∷◌, Err, refl, ap}
 use Rattle.engine_api.specs.declared.fault.Code.TheVariants.{Full}
-use Rattle.plugd.proofs.PrepareLemmas.{prepares_done, prepares_full, prepares_halted, prepares_err}
+use Rattle.plugd.proofs.PrepareLemmas.{prepares_done, prepares_full, prepares_halted, prepares_err, spent_where_full}
 use Rattle.plugd.proofs.kernel.Kernel.prepare.Goals as goal
 
 pub returns-in-Ok-clause-prepares : goal.returns-in-Ok-clause-prepares
@@ -10,6 +10,9 @@ returns-in-Ok-clause-prepares g c =
 pub returns-in-Err-Code-clause-prepares : goal.returns-in-Err-Code-clause-prepares
 returns-in-Err-Code-clause-prepares g c =
     prepares_full c.args.xid _ c.in-Err-Code.field-0 c.in-Err-Code.field-0-0 _ _ _ _ _ c.in-Err-Code.ensures.same c.in-Err-Code.ensures.turns c.in-Err-Code.field-0-is
+
+pub returns-in-Err-Code-clause-full : goal.returns-in-Err-Code-clause-full
+returns-in-Err-Code-clause-full g c = λ done. spent_where_full _ _ c.in-Err-Code.field-0 c.in-Err-Code.field-0-0 c.in-Err-Code.field-0-is c.in-Err-Code.ensures.answers (λ is. c.in-Err-Code.ensures.full (ap Err is))
 
 pub returns-in_ok-cause-in-Err-clause-prepares : goal.returns-in_ok-cause-in-Err-clause-prepares
 returns-in_ok-cause-in-Err-clause-prepares g c =
