@@ -1,0 +1,15 @@
+pub mod PartLemmas
+pub mod Packing
+pub mod FieldLemmas
+pub mod LaidLemmas
+pub mod SlotsLemmas
+pub mod FormLemmas
+pub mod WriteLemmas
+pub mod RowsLemmas
+pub mod BecomesLemmas
+pub mod AddLemmas
+pub mod PackLemmas
+pub mod ClaimLemmas
+pub mod Claimed
+pub mod ClaimedLemmas
+pub mod HeldLemmas

@@ -1,0 +1,5 @@
+pub mod Pages
+pub mod Format
+pub mod Kept
+pub mod Writes
+pub mod Claims
