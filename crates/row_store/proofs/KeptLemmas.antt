@@ -1,7 +1,7 @@
 -- What is kept of a table of rows while one comes, goes, or gives way to another.
 use Rattle.std.proofs.Common.{◌≡◌, ◌≢◌, ◌⊎◌, inl, inr, ⊎_elim, ℕ, zero, suc, ◌+◌, ◌-◌, ◌<◌, ◌≤◌, List, [], ◌∷◌, length, get_or, Option, Some, None, true, Result, Ok, IsTrue, refl, sym, ◌∙◌, ap, subst, arith}
 use Rattle.std.specs.Prelude.{is_some, insert, remove, slice_get}
-use Rattle.std.proofs.lemmas.List.{get_or_default}
+use Rattle.std.proofs.lemmas.Option.{get_or_from_slice_get}
 use Rattle.std.proofs.lemmas.List.Edits.{length-insert, length-remove}
 use Rattle.sql_value.specs.declared.value.Value.{Value}
 use Rattle.log_tables.specs.Keys.{inserted, IsOrdered}
@@ -171,20 +171,19 @@ pub record Came (key : Option ℕ) (old new : Slots) (order order₂ left : List
   pub within : i ≤ length (rows_in old order)
   pub less : (spare - 1) + 1 ≡ spare
 
-pub came : (key : Option ℕ) (old new : Slots) (order order₂ free left : List ℕ) (spare a b d a₂ b₂ d₂ slot i : ℕ) (row : List Value) (seen : Slots) (seen_order : List ℕ) → AreKept old order free spare a b d → 0 < spare → length (rows_in old order) < 4294967295
-    → Fills old free row slot new left → seen ≡ old → seen_order ≡ order → i ≤ length seen_order → (IsOrdered key (rows_in seen seen_order) → Takes key row (rows_in seen seen_order) (Some i)) → order₂ ≡ insert order i slot → a ≤ a₂ → b ≤ b₂ → d ≤ d₂
+pub came : (key : Option ℕ) (old new : Slots) (order order₂ free left : List ℕ) (spare a b d a₂ b₂ d₂ slot i : ℕ) (row : List Value) (seen : Slots) → AreKept old order free spare a b d → 0 < spare → length (rows_in old order) < 4294967295
+    → Fills old free row slot new left → seen ≡ old → i ≤ length order → (IsOrdered key (rows_in seen order) → Takes key row (rows_in seen order) (Some i)) → order₂ ≡ insert order i slot → a ≤ a₂ → b ≤ b₂ → d ≤ d₂
     → IsOrdered key (rows_in old order) → Came key old new order order₂ left spare a₂ b₂ d₂ i row
-came key old new order order₂ free left spare a b d a₂ b₂ d₂ slot i row seen seen_order k some few f same same₂ within takes is up up₂ up₃ ordered =
+came key old new order order₂ free left spare a b d a₂ b₂ d₂ slot i row seen k some few f same within takes is up up₂ up₃ ordered =
     let size = rows_length old order in
-    let lt : i ≤ length order = subst (λ (l : List ℕ). i ≤ length l) same₂ within in
-    let fits = subst (λ (s : Slots). IsOrdered key (rows_in s order) → Takes key row (rows_in s order) (Some i)) same (subst (λ (l : List ℕ). IsOrdered key (rows_in seen l) → Takes key row (rows_in seen l) (Some i)) same₂ takes) ordered in
+    let fits = subst (λ (s : Slots). IsOrdered key (rows_in s order) → Takes key row (rows_in s order) (Some i)) same takes ordered in
     let rows : rows_in new order₂ ≡ insert (rows_in old order) i row = ap (rows_in new) is ∙ rows_fill old new order free left spare a b d slot i row k f in
     record {
-      kept = subst (λ (l : List ℕ). AreKept new l left (spare - 1) a₂ b₂ d₂) (sym is) (kept_fill old new order free left spare a b d a₂ b₂ d₂ slot i row k some (omega (arith, few, size)) f lt up up₂ up₃);
+      kept = subst (λ (l : List ℕ). AreKept new l left (spare - 1) a₂ b₂ d₂) (sym is) (kept_fill old new order free left spare a b d a₂ b₂ d₂ slot i row k some (omega (arith, few, size)) f within up up₂ up₃);
       ordered = placed key row (rows_in old order) i (rows_in new order₂) rows fits ordered;
       takes = fits;
       rows = rows;
-      within = omega (arith, lt, size);
+      within = omega (arith, within, size);
       less = omega (arith, some);
     }
 
@@ -195,12 +194,12 @@ pub record Went (key : Option ℕ) (old new : Slots) (order order₂ more : List
   pub rows : rows_in new order₂ ≡ remove (rows_in old order) i
   pub was : slice_get (rows_in old order) i ≡ Some row
 
-pub went : (key : Option ℕ) (old new : Slots) (order order₂ free more : List ℕ) (spare a b d a₂ b₂ d₂ i slot : ℕ) (row : List Value) → AreKept old order free spare a b d → i < length (rows_in old order) → slot ≡ get_or order i slot → order₂ ≡ remove order i
+pub went : (key : Option ℕ) (old new : Slots) (order order₂ free more : List ℕ) (spare a b d a₂ b₂ d₂ i slot : ℕ) (row : List Value) → AreKept old order free spare a b d → i < length (rows_in old order) → slice_get order i ≡ Some slot → order₂ ≡ remove order i
     → Frees old free slot row new more → a ≤ a₂ → b ≤ b₂ → d ≤ d₂ → IsOrdered key (rows_in old order) → Went key old new order order₂ more spare a₂ b₂ d₂ i row
 went key old new order order₂ free more spare a b d a₂ b₂ d₂ i slot row k within there is f up up₂ up₃ ordered =
     let size = rows_length old order in
     let lt : i < length order = omega (arith, within, size) in
-    let here : slot ≡ get_or order i 0 = there ∙ get_or_default order i slot 0 lt in
+    let here : slot ≡ get_or order i 0 = sym (get_or_from_slice_get order i slot 0 there) in
     let frees = subst (λ (s : ℕ). Frees old free s row new more) here f in
     let rows : rows_in new order₂ ≡ remove (rows_in old order) i = ap (rows_in new) is ∙ rows_remove old new order i 0 k.apart lt frees.others in
     record {
@@ -217,12 +216,12 @@ pub record Gave (key : Option ℕ) (old new : Slots) (order order₂ free : List
   pub rows : replaced key i row (rows_in old order) ≡ Some (rows_in new order₂)
   pub was : slice_get (rows_in old order) i ≡ Some before
 
-pub gave : (key : Option ℕ) (old new : Slots) (order order₂ free : List ℕ) (spare a b d a₂ b₂ i slot : ℕ) (row before : List Value) (seen : Slots) → AreKept old order free spare a b d → i < length (rows_in old order) → slot ≡ get_or order i slot → seen ≡ old
+pub gave : (key : Option ℕ) (old new : Slots) (order order₂ free : List ℕ) (spare a b d a₂ b₂ i slot : ℕ) (row before : List Value) (seen : Slots) → AreKept old order free spare a b d → i < length (rows_in old order) → slice_get order i ≡ Some slot → seen ≡ old
     → (IsOrdered key (rows_in seen order) → Turns key seen i row order order₂ true) → Swaps old slot row before new → a ≤ a₂ → b ≤ b₂ → IsOrdered key (rows_in old order) → Gave key old new order order₂ free spare a₂ b₂ d i row before
 gave key old new order order₂ free spare a b d a₂ b₂ i slot row before seen k within there same turns s up up₂ ordered =
     let size = rows_length old order in
     let lt : i < length order = omega (arith, within, size) in
-    let here : slot ≡ get_or order i 0 = there ∙ get_or_default order i slot 0 lt in
+    let here : slot ≡ get_or order i 0 = sym (get_or_from_slice_get order i slot 0 there) in
     let swaps = subst (λ (n : ℕ). Swaps old n row before new) here s in
     let t = subst (λ (l : Slots). IsOrdered key (rows_in l order) → Turns key l i row order order₂ true) same turns ordered in
     let rows = rows_swap key old new order order₂ free spare a b d i row before k lt t swaps in
@@ -234,11 +233,11 @@ gave key old new order order₂ free spare a b d a₂ b₂ i slot row before see
     }
 
 -- the slot at a place has a row
-pub taken_there : (old : Slots) (order free : List ℕ) (spare a b d i slot : ℕ) → AreKept old order free spare a b d → i < length (rows_in old order) → slot ≡ get_or order i slot → IsTrue (is_some (at old slot))
+pub taken_there : (old : Slots) (order free : List ℕ) (spare a b d i slot : ℕ) → AreKept old order free spare a b d → i < length (rows_in old order) → slice_get order i ≡ Some slot → IsTrue (is_some (at old slot))
 taken_there old order free spare a b d i slot k within there =
     let size = rows_length old order in
     let lt : i < length order = omega (arith, within, size) in
-    subst (λ (s : ℕ). IsTrue (is_some (at old s))) (sym (there ∙ get_or_default order i slot 0 lt)) (taken_at old order i 0 k.taken lt)
+    subst (λ (s : ℕ). IsTrue (is_some (at old s))) (get_or_from_slice_get order i slot 0 there) (taken_at old order i 0 k.taken lt)
 
 -- a row that came at a place, where there is no key
 pub came_at : (key : Option ℕ) (old new : Slots) (order order₂ free left : List ℕ) (spare a b d a₂ b₂ d₂ slot i : ℕ) (row : List Value) → AreKept old order free spare a b d → key ≡ None → 0 < spare → length (rows_in old order) < 4294967295

@@ -1,13 +1,13 @@
 -- Rows found by binary search, and where a row goes among rows in key order.
-use Rattle.std.proofs.Common.{◌≡◌, ◌≢◌, ◌⊎◌, inl, inr, ℕ, ◌<◌, ◌≤◌, zero, suc, List, [], ◌∷◌, length, get_or, Option, Some, None, true, false, refl, sym, ap, ◌∙◌, arith, subst}
-use Rattle.std.specs.Prelude.{is_some, nat_eq}
-use Rattle.std.specs.List.{insert, remove}
-use Rattle.std.specs.List.Sorted.{IsPartitionedBy, IsPartitionPoint}
+use Rattle.std.proofs.Common.{◌≡◌, ◌≢◌, ◌⊎◌, inl, inr, Bool, ℕ, ◌+◌, ◌<◌, ◌≤◌, zero, suc, List, [], ◌∷◌, length, get_or, Option, Some, None, true, false, refl, sym, ap, ◌∙◌, arith, subst}
+use Rattle.std.specs.Prelude.{is_some, nat_eq, slice_get}
+use Rattle.std.specs.List.{insert, remove, AllWithin}
+use Rattle.std.specs.List.Sorted.{IsPartitionedBy}
 use Rattle.std.specs.Ordering.{is_lt, is_eq, ordering_reverse, ordering_index}
 use Rattle.std.specs.declared.cmp.Ordering.{Ordering}
 use Rattle.std.specs.declared.cmp.Ordering.TheVariants.{Less, Equal, Greater}
 use Rattle.std.proofs.lemmas.Bool.{cases_order, cond-true, cond-false}
-use Rattle.std.proofs.lemmas.List.{get_or-map}
+use Rattle.std.proofs.lemmas.List.{get_or-map, get_or_default}
 use Rattle.std.proofs.lemmas.List.Edits.{insert_end}
 use Rattle.std.proofs.lemmas.Option.{slice_get-get_or}
 use Rattle.sql_value.specs.declared.value.Value.{Value}
@@ -113,26 +113,42 @@ pub rows_length : (slots : Slots) (order : List ℕ) → length (rows_in slots o
 rows_length slots [] = refl
 rows_length slots (it ∷ rest) = ap suc (rows_length slots rest)
 
--- the slots of rows with lower keys stand before the others
-pub order_partitioned : (slots : Slots) (column : ℕ) (key : Value) (order : List ℕ) → IsInKeyOrder column (rows_in slots order) → IsPartitionedBy (λ s. is_key_below column key (row_in slots s)) order
-order_partitioned slots column key order ordered = λ i j d before lt low.
-    let rows = rows_in slots order in
-    let size = rows_length slots order in
-    let is = is_key_below column key in
-    let low₂ : is (get_or rows j []) ≡ true = ap is (get_or-map (row_in slots) order j d [] lt) ∙ low in
-    ap is (sym (get_or-map (row_in slots) order i d [] (omega (arith, before, lt)))) ∙ rows_partitioned column key rows ordered i j [] before (omega (arith, lt, size)) low₂
+-- the rows before a place have lower keys, and those from another on have not
+abbrev pub ArePartedUpTo : ℕ → Value → List (List Value) → ℕ → ℕ → Type 0
+ArePartedUpTo column key rows low high =
+    AllWithin (λ row. is_key_below column key row ≡ true) rows 0 low × AllWithin (λ row. is_key_below column key row ≡ false) rows high (length rows)
 
--- so are the rows
-pub rows_parted : (slots : Slots) (column : ℕ) (key : Value) (order : List ℕ) (count : ℕ) → count ≤ length order
-    → IsPartitionPoint (λ s. is_key_below column key (row_in slots s) ≡ true) (λ s. is_key_below column key (row_in slots s) ≡ false) order count → AreParted column key (rows_in slots order) count
-rows_parted slots column key order count within point =
-    let is = is_key_below column key in (
-      λ k d low high. ap is (get_or-map (row_in slots) order k 0 d (omega (arith, high, within))) ∙ point.0 k 0 low high,
-      λ k d low high.
-          let size = rows_length slots order in
-          let lt : k < length order = omega (arith, high, size) in
-          ap is (get_or-map (row_in slots) order k 0 d lt) ∙ point.1 k 0 low lt,
-    )
+-- nothing is known yet
+pub parted_none : (column : ℕ) (key : Value) (rows : List (List Value)) (n : ℕ) → n ≡ length rows → ArePartedUpTo column key rows 0 n
+parted_none column key rows n is = (λ k d low high. absurd (omega (arith, high)), λ k d low high. absurd (omega (arith, low, high, is)))
+
+-- the row in the middle has a lower key
+pub parted_above : (column : ℕ) (key : Value) (rows : List (List Value)) (low high middle : ℕ) → IsInKeyOrder column rows → middle < length rows → is_key_below column key (get_or rows middle []) ≡ true → ArePartedUpTo column key rows low high
+    → ArePartedUpTo column key rows (middle + 1) high
+parted_above column key rows low high middle ordered within below parted = (
+  λ k d from to.
+      rows_partitioned column key rows ordered k middle d (omega (arith, to)) within (ap (is_key_below column key) (get_or_default rows middle d [] within) ∙ below),
+  parted.1,
+)
+
+not_true : (b : Bool) → (b ≡ true → false ≡ true) → b ≡ false
+not_true true never = sym (never refl)
+not_true false never = refl
+
+-- it has not
+pub parted_below : (column : ℕ) (key : Value) (rows : List (List Value)) (low high middle : ℕ) → IsInKeyOrder column rows → is_key_below column key (get_or rows middle []) ≡ false → ArePartedUpTo column key rows low high → ArePartedUpTo column key rows low middle
+parted_below column key rows low high middle ordered below parted = (
+  parted.0,
+  λ k d from to.
+      not_true (is_key_below column key (get_or rows k d)) (λ lower.
+      sym below ∙ ap (is_key_below column key) (get_or_default rows middle [] d (omega (arith, from, to))) ∙ rows_partitioned column key rows ordered middle k d from to lower),
+)
+
+-- no slot stands at the place
+pub past : (order : List ℕ) (i : ℕ) → None ≡ slice_get order i → length order ≤ i
+past [] i none = omega arith
+past (it ∷ rest) zero none = absurd (let e = none in cc)
+past (it ∷ rest) (suc i) none = let more = past rest i none in omega (arith, more)
 
 -- how the key of the row at a place stands to a value
 pub order_there : (slots : Slots) (order : List ℕ) (column : ℕ) (key : Value) (i slot : ℕ) (o : Ordering) → i < length order → get_or order i 0 ≡ slot → o ≡ value_cmp (key_in column (row_in slots slot)) key

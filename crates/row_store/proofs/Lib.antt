@@ -3,3 +3,5 @@ pub mod KeyLemmas
 pub mod EditLemmas
 pub mod KeptLemmas
 pub mod TurnLemmas
+mod BlockLemmas
+mod OrderLemmas

@@ -1,7 +1,7 @@
 -- The slot at a place, where the key of another row goes.
 use Rattle.std.proofs.Common.{◌≡◌, ℕ, zero, suc, ◌<◌, ◌≤◌, List, [], ◌∷◌, length, get_or, Option, Some, None, true, false, refl, sym, ◌∙◌, ap, subst, arith}
-use Rattle.std.specs.Prelude.{is_none, insert, remove, slice_index_or}
-use Rattle.std.proofs.lemmas.List.{get_or_default}
+use Rattle.std.specs.Prelude.{is_none, insert, remove, slice_get}
+use Rattle.std.proofs.lemmas.Option.{get_or_from_slice_get}
 use Rattle.sql_value.specs.declared.value.Value.{Value}
 use Rattle.log_tables.specs.Keys.{inserted, IsOrdered, IsInKeyOrder}
 use Rattle.row_store.specs.Slots.{row_in, rows_in}
@@ -25,23 +25,23 @@ rest_ordered column slots order rest i is lt ordered =
     subst (IsInKeyOrder column) (sym (rest_rows slots order rest i is)) (in_order_without column (rows_in slots order) i ordered (omega (arith, lt, size)))
 
 -- the key is free
-pub turned : (key : Option ℕ) (slots : Slots) (i j slot : ℕ) (row : List Value) (order rest new : List ℕ) → is_none key ≡ false → i < length order → rest ≡ remove order i → slot ≡ slice_index_or order i slot
+pub turned : (key : Option ℕ) (slots : Slots) (i j slot : ℕ) (row : List Value) (order rest new : List ℕ) → is_none key ≡ false → i < length order → rest ≡ remove order i → slice_get order i ≡ Some slot
     → (IsOrdered key (rows_in slots rest) → Takes key row (rows_in slots rest) (Some j)) → j ≤ length rest → new ≡ insert rest j slot → IsOrdered key (rows_in slots order) → Turns key slots i row order new true
 turned None slots i j slot row order rest new some lt rest_is slot_is takes within is ordered = absurd (let e = some in cc)
 turned (Some column) slots i j slot row order rest new some lt rest_is slot_is takes within is ordered =
     let same = rest_rows slots order rest i rest_is in (
       j,
       subst (λ (l : List ℕ). j ≤ length l) rest_is within,
-      is ∙ ap (λ (l : List ℕ). insert l j slot) rest_is ∙ ap (insert (remove order i) j) (slot_is ∙ get_or_default order i slot 0 lt),
+      is ∙ ap (λ (l : List ℕ). insert l j slot) rest_is ∙ ap (insert (remove order i) j) (sym (get_or_from_slice_get order i slot 0 slot_is)),
       subst (λ (l : List (List Value)). inserted (Some column) row l ≡ Some (insert l j row)) same (takes (rest_ordered column slots order rest i rest_is lt ordered)),
     )
 
 -- another row has it
-pub turned_back : (key : Option ℕ) (slots : Slots) (i slot : ℕ) (row : List Value) (order rest new : List ℕ) → is_none key ≡ false → i < length order → rest ≡ remove order i → slot ≡ slice_index_or order i slot
+pub turned_back : (key : Option ℕ) (slots : Slots) (i slot : ℕ) (row : List Value) (order rest new : List ℕ) → is_none key ≡ false → i < length order → rest ≡ remove order i → slice_get order i ≡ Some slot
     → (IsOrdered key (rows_in slots rest) → Takes key row (rows_in slots rest) None) → new ≡ insert rest i slot → IsOrdered key (rows_in slots order) → Turns key slots i row order new false
 turned_back None slots i slot row order rest new some lt rest_is slot_is takes is ordered = absurd (let e = some in cc)
 turned_back (Some column) slots i slot row order rest new some lt rest_is slot_is takes is ordered =
     let same = rest_rows slots order rest i rest_is in (
-      is ∙ ap (λ (l : List ℕ). insert l i slot) rest_is ∙ ap (insert (remove order i) i) slot_is ∙ goes_back order i slot lt,
+      is ∙ ap (λ (l : List ℕ). insert l i slot) rest_is ∙ ap (insert (remove order i) i) (sym (get_or_from_slice_get order i slot slot slot_is)) ∙ goes_back order i slot lt,
       subst (λ (l : List (List Value)). inserted (Some column) row l ≡ None) same (takes (rest_ordered column slots order rest i rest_is lt ordered)),
     )

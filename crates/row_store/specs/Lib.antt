@@ -1,3 +1,4 @@
 pub mod Slots
+pub mod Blocks
 pub mod Rows
 pub mod Turns

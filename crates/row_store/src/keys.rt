@@ -1,10 +1,11 @@
 //! Rows by key: a row is found by binary search, over slots that are read in key order.
-ghost use Rattle.std.specs.Prelude.{◌≡◌, ◌≤◌, ◌<◌, length, IfSome, Some};
+ghost use Rattle.std.specs.Prelude.{◌≡◌, ◌≤◌, ◌<◌, [], length, get_or, IfSome, Some};
 ghost use Rattle.sql_value.specs.Values.{value_cmp};
 ghost use Rattle.log_tables.specs.Keys.{key_in, IsInKeyOrder, IsOrdered};
 ghost use Rattle.row_store.specs.Slots.{row_in as row_of, rows_in};
-ghost use Rattle.row_store.specs.Rows.{AreParted, Finds, Takes, IsAtKey};
+ghost use Rattle.row_store.specs.Rows.{is_key_below, AreParted, Finds, Takes, IsAtKey};
 
+use crate::order::Order;
 use crate::slots::row_in;
 use row_format::{Row, Value};
 use sql_value::value_order;
@@ -30,26 +31,48 @@ fn key_order(slots: &[Option<Row>], slot: u32, column: usize, key: &Value) -> Or
     }
 }
 
-// How many of the rows, from the first, have lower keys, where they are in key order.
-fn count_below(slots: &[Option<Row>], order: &[u32], column: usize, key: &Value) -> usize
-    ensures within { result ≤ length order.now }
-    ensures parted { IsInKeyOrder column (rows_in slots.now order.now)
-        → AreParted column key.now (rows_in slots.now order.now) result }
+// Whether the row at a place has a lower key.
+fn is_below(slots: &[Option<Row>], order: &Order, i: usize, column: usize, key: &Value) -> bool
+    requires within { i < length order.now.items }
+    ensures { result ≡ is_key_below column key.now
+        (get_or (rows_in slots.now order.now.items) i []) }
 {
-    order.partition_point(|slot| key_order(slots, *slot, column, key) == Ordering::Less)
+    match order.get(i) {
+        Some(slot) => key_order(slots, slot, column, key) == Ordering::Less,
+        None => unreachable!(),
+    }
+}
+
+// How many of the rows, from the first, have lower keys, where they are in key order.
+fn count_below(slots: &[Option<Row>], order: &Order, column: usize, key: &Value) -> usize
+    ensures within { result ≤ length order.now.items }
+    ensures parted { IsInKeyOrder column (rows_in slots.now order.now.items)
+        → AreParted column key.now (rows_in slots.now order.now.items) result }
+{
+    let mut low = 0;
+    let mut high = order.len();
+    while low < high {
+        let middle = low + (high - low) / 2;
+        if is_below(slots, order, middle, column, key) {
+            low = middle + 1;
+        } else {
+            high = middle;
+        }
+    }
+    low
 }
 
 // Where a row with this key goes among rows in key order; None where one of them has it.
-fn place_for(slots: &[Option<Row>], order: &[u32], column: usize, key: &Value) -> Option<usize>
-    ensures within { IfSome result (λ i. i ≤ length order.now) }
-    ensures found { IsInKeyOrder column (rows_in slots.now order.now)
-        → Finds column key.now (rows_in slots.now order.now) result }
+fn place_for(slots: &[Option<Row>], order: &Order, column: usize, key: &Value) -> Option<usize>
+    ensures within { IfSome result (λ i. i ≤ length order.now.items) }
+    ensures found { IsInKeyOrder column (rows_in slots.now order.now.items)
+        → Finds column key.now (rows_in slots.now order.now.items) result }
 {
     let i = count_below(slots, order, column, key);
     match order.get(i) {
         None => Some(i),
         Some(slot) => {
-            if key_order(slots, *slot, column, key) == Ordering::Equal {
+            if key_order(slots, slot, column, key) == Ordering::Equal {
                 None
             } else {
                 Some(i)
@@ -59,10 +82,10 @@ fn place_for(slots: &[Option<Row>], order: &[u32], column: usize, key: &Value) -
 }
 
 // Where a row goes among rows in key order; None where one of them has its key.
-fn place_of(slots: &[Option<Row>], order: &[u32], column: usize, row: &Row) -> Option<usize>
-    ensures within { IfSome result (λ i. i ≤ length order.now) }
-    ensures found { IsInKeyOrder column (rows_in slots.now order.now)
-        → Finds column (key_in column row.now) (rows_in slots.now order.now) result }
+fn place_of(slots: &[Option<Row>], order: &Order, column: usize, row: &Row) -> Option<usize>
+    ensures within { IfSome result (λ i. i ≤ length order.now.items) }
+    ensures found { IsInKeyOrder column (rows_in slots.now order.now.items)
+        → Finds column (key_in column row.now) (rows_in slots.now order.now.items) result }
 {
     match row.values().get(column) {
         Some(key) => place_for(slots, order, column, key),
@@ -74,12 +97,12 @@ fn place_of(slots: &[Option<Row>], order: &[u32], column: usize, row: &Row) -> O
 pub(crate) fn place_in(
     key: Option<u8>,
     slots: &[Option<Row>],
-    order: &[u32],
+    order: &Order,
     row: &Row,
 ) -> Option<usize>
-    ensures within { IfSome result (λ i. i ≤ length order.now) }
-    ensures found { IsOrdered key (rows_in slots.now order.now)
-        → Takes key row.now (rows_in slots.now order.now) result }
+    ensures within { IfSome result (λ i. i ≤ length order.now.items) }
+    ensures found { IsOrdered key (rows_in slots.now order.now.items)
+        → Takes key row.now (rows_in slots.now order.now.items) result }
 {
     match key {
         Some(column) => place_of(slots, order, column as usize, row),
@@ -88,14 +111,14 @@ pub(crate) fn place_in(
 }
 
 // Where the row with this key stands among rows in key order; None where none has it.
-fn place_with(slots: &[Option<Row>], order: &[u32], column: usize, key: &Value) -> Option<usize>
-    ensures within { IfSome result (λ i. i < length order.now) }
-    ensures found { IsInKeyOrder column (rows_in slots.now order.now)
-        → IsAtKey (Some column) key.now (rows_in slots.now order.now) result }
+fn place_with(slots: &[Option<Row>], order: &Order, column: usize, key: &Value) -> Option<usize>
+    ensures within { IfSome result (λ i. i < length order.now.items) }
+    ensures found { IsInKeyOrder column (rows_in slots.now order.now.items)
+        → IsAtKey (Some column) key.now (rows_in slots.now order.now.items) result }
 {
     let i = count_below(slots, order, column, key);
     let slot = order.get(i)?;
-    if key_order(slots, *slot, column, key) == Ordering::Equal {
+    if key_order(slots, slot, column, key) == Ordering::Equal {
         Some(i)
     } else {
         None
@@ -106,12 +129,12 @@ fn place_with(slots: &[Option<Row>], order: &[u32], column: usize, key: &Value) 
 pub(crate) fn place_at(
     key: Option<u8>,
     slots: &[Option<Row>],
-    order: &[u32],
+    order: &Order,
     wanted: &Value,
 ) -> Option<usize>
-    ensures within { IfSome result (λ i. i < length order.now) }
-    ensures found { IsOrdered key (rows_in slots.now order.now)
-        → IsAtKey key wanted.now (rows_in slots.now order.now) result }
+    ensures within { IfSome result (λ i. i < length order.now.items) }
+    ensures found { IsOrdered key (rows_in slots.now order.now.items)
+        → IsAtKey key wanted.now (rows_in slots.now order.now.items) result }
 {
     match key {
         Some(column) => place_with(slots, order, column as usize, wanted),

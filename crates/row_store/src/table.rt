@@ -3,8 +3,9 @@ ghost use Rattle.std.specs.Prelude.{◌≡◌, ◌≤◌, ◌<◌, ◌+◌, None
 ghost use Rattle.std.specs.Option.{option_copied};
 ghost use Rattle.row_store.specs.Rows.{Inserts, Replaces, IsAtKey};
 
-use crate::edits::{insert_reserved, turn};
+use crate::edits::turn;
 use crate::keys::{place_at, place_in};
+use crate::order::Order;
 use crate::slots::{fill, row_in, swap, take};
 use row_format::{Row, Schema, Value};
 use std::alloc::{AllocError, Global};
@@ -21,7 +22,7 @@ pub struct RowTable {
     // Each row in a slot of its own, and slots that are free.
     slots: Vec<Option<Row>>,
     // The slots with a row, in order.
-    order: Vec<u32>,
+    order: Order,
     // The free slots.
     free: Vec<u32>,
     spare: usize,
@@ -42,7 +43,7 @@ impl Model for RowTable {
     } };
 
     ghost invariant = { λ t. AreKept t.slots.items t.order.items t.free.items t.spare
-        (vec_capacity t.slots) (vec_capacity t.order) (vec_capacity t.free)
+        (vec_capacity t.slots) t.order.room (vec_capacity t.free)
         × IsOrdered t.schema.key (rows_in t.slots.items t.order.items) };
 }
 
@@ -54,7 +55,7 @@ impl RowTable {
         RowTable {
             schema,
             slots: Vec::new(alloc),
-            order: Vec::new(alloc),
+            order: Order::new(alloc),
             free: Vec::new(alloc),
             spare: 0,
         }
@@ -117,7 +118,7 @@ impl RowTable {
         ensures { option_copied result ≡ slice_get self.now.rows place }
     {
         match self.order.get(place as usize) {
-            Some(slot) => row_in(&self.slots, *slot),
+            Some(slot) => row_in(&self.slots, slot),
             None => None,
         }
     }
@@ -133,7 +134,7 @@ impl RowTable {
             return Err(row);
         };
         let slot = fill(&mut self.slots, &mut self.free, row);
-        insert_reserved(&mut self.order, i, slot);
+        self.order.insert_reserved(i, slot);
         self.spare -= 1;
         Ok(i as u32)
     }
@@ -149,7 +150,7 @@ impl RowTable {
         ensures spare { self.new.spare + 1 ≡ self.old.spare }
     {
         let slot = fill(&mut self.slots, &mut self.free, row);
-        insert_reserved(&mut self.order, place as usize, slot);
+        self.order.insert_reserved(place as usize, slot);
         self.spare -= 1;
     }
 
@@ -160,7 +161,9 @@ impl RowTable {
         ensures replaces { Replaces place row self.old self.new result }
     {
         let i = place as usize;
-        let slot = self.order[i];
+        let Some(slot) = self.order.get(i) else {
+            unreachable!();
+        };
         if turn(self.schema.key, &self.slots, &mut self.order, i, &row) {
             Ok(swap(&mut self.slots, slot, row))
         } else {

@@ -55,7 +55,7 @@ fn keys_of(alloc: Global, table: &RowTable) -> Result<Vec<i64>, AllocError> {
 
 // Adds a row where its key is free, and tells its place.
 fn add(table: &mut RowTable, row: Row) -> Result<Option<u32>, AllocError> {
-    if table.len() >= 1_000 {
+    if table.len() >= 10_000 {
         return Err(AllocError);
     }
     table.reserve(1)?;
@@ -131,6 +131,28 @@ fn what_was_taken_out_goes_back_without_room_made_for_it(rt: HostRuntime) -> Res
     assert_eq!(rt; (before, rows.len(), rows.spare()), (Some(4), 0, 2));
     put_back(&mut rows, row(alloc, 4, b'a')?);
     assert_eq!(rt; (rows.len(), rows.spare()), (1, 1));
+    Ok(())
+}
+
+#[test]
+fn many_rows_come_and_go_at_the_front(rt: HostRuntime) -> Result<(), Fail> {
+    let alloc = rt.alloc();
+    let mut rows = table(alloc, Some(0))?;
+    for key in (0..3_000).rev() {
+        assert_eq!(rt; add(&mut rows, row(alloc, key, b'a')?)?, Some(0));
+    }
+    for place in [0, 1_023, 1_024, 2_047, 2_048, 2_999] {
+        assert_eq!(rt; rows.at_place(place).map(key_of), Some(i64::from(place)));
+    }
+    for key in 0..1_500 {
+        assert_eq!(rt; take(&mut rows, 0), Some(key));
+    }
+    for place in [0, 1_023, 1_024, 1_499] {
+        let wanted = i64::from(place) + 1_500;
+        assert_eq!(rt; rows.at_place(place).map(key_of), Some(wanted));
+        assert_eq!(rt; rows.at_key(&Value::Int(wanted)), Some(place));
+    }
+    assert!(rt; rows.at_place(1_500).is_none());
     Ok(())
 }
 

@@ -1,13 +1,22 @@
-use Rattle.std.proofs.Common.{rules}
-use Rattle.std.proofs.lemmas.List.Sorted.{IsPartitionPoint-from_clause}
-use Rattle.row_store.specs.Slots.{row_in}
-use Rattle.row_store.specs.Rows.{is_key_below}
-use Rattle.row_store.proofs.KeyLemmas.{order_partitioned, rows_parted}
+use Rattle.std.proofs.Common.{◌+◌, ◌-◌, ◌/◌, ◌<◌, sym, ◌∙◌, arith}
+use Rattle.row_store.specs.Slots.{rows_in}
+use Rattle.row_store.proofs.KeyLemmas.{rows_length, parted_above, parted_below}
 use Rattle.row_store.proofs.keys.count_below.Goals as goal
 
-pub returns-clause-parted : goal.returns-clause-parted
-returns-clause-parted c = λ ordered.
-    let slots = c.args.slots.now in
-    rows_parted slots c.args.column c.args.key.now c.args.order.now c.partition_point.result (search rules)
-    (IsPartitionPoint-from_clause (λ s. is_key_below c.args.column c.args.key.now (row_in slots s)) c.args.order.now c.partition_point.result c.partition_point.ensures.partitioned
-    (order_partitioned slots c.args.column c.args.key.now c.args.order.now ordered) (λ a r f' q. search rules))
+pub loop-low-preserved-then-is_below : goal.loop-low-preserved-then-is_below
+loop-low-preserved-then-is_below c =
+    let rows = rows_in c.args.slots.now c.args.order.now.items in
+    let size = rows_length c.args.slots.now c.args.order.now.items in
+    let middle = c.loop-low.low + (c.loop-low.high - c.loop-low.low) / 2 in
+    let some = c.loop-low-test.true in
+    let invariant = c.loop-low.invariant in
+    let lt : middle < c.loop-low.high = omega (arith, some) in
+    (λ ordered. parted_above c.args.column c.args.key.now rows c.loop-low.low c.loop-low.high middle ordered (omega (arith, lt, size, invariant.2)) (sym c.is_below.ensures ∙ c.if-is_below.true) (invariant.0 ordered), omega (arith, lt), invariant.2)
+
+pub loop-low-preserved : goal.loop-low-preserved
+loop-low-preserved c =
+    let rows = rows_in c.args.slots.now c.args.order.now.items in
+    let middle = c.loop-low.low + (c.loop-low.high - c.loop-low.low) / 2 in
+    let some = c.loop-low-test.true in
+    let invariant = c.loop-low.invariant in
+    (λ ordered. parted_below c.args.column c.args.key.now rows c.loop-low.low c.loop-low.high middle ordered (sym c.is_below.ensures ∙ c.if-is_below.false) (invariant.0 ordered), omega arith, omega (arith, some, invariant.2))
