@@ -1,0 +1,4 @@
+pub mod Names
+pub mod Types
+pub mod Tables
+pub mod Plans
