@@ -1,0 +1,12 @@
+pub mod ListLemmas
+pub mod WayLemmas
+pub mod ConflictLemmas
+pub mod QueueLemmas
+pub mod SoundLemmas
+pub mod SettleLemmas
+pub mod RequestLemmas
+pub mod MarkLemmas
+pub mod ReachLemmas
+pub mod NextLemmas
+pub mod BackLemmas
+pub mod CloseLemmas
