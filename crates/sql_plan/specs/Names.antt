@@ -16,30 +16,35 @@ use Rattle.sql_text.specs.declared.statement.Term.{Term}
 abbrev pub has_column : List Column → List ℕ → Bool
 has_column columns name = list_any (is_called name) columns
 
--- each column that is named is there: by an operand, a sum, a step, a condition, what is set
+-- the column that an operand names is there, where it names one
 abbrev pub operand_known : List Column → Operand → Bool
 operand_known columns (operand.Literal literal) = true
 operand_known columns (operand.Column name) = has_column columns name
 
+-- so it is of a term of a sum
 abbrev pub term_known : List Column → Term → Bool
 term_known columns term = operand_known columns term.operand
 
+-- each column that a sum names is there
 abbrev pub sum_known : List Column → Sum → Bool
 sum_known columns sum = operand_known columns sum.first && list_all (term_known columns) sum.rest
 
+-- each column that a step of a condition names is there
 abbrev pub step_known : List Column → Step → Bool
 step_known columns (step.Compare left op right) = sum_known columns left && sum_known columns right
 step_known columns (step.IsNull sum negated) = sum_known columns sum
 step_known columns _ = true
 
+-- each column that a condition names is there, where there is a condition
 abbrev pub cond_known : List Column → Option Cond → Bool
 cond_known columns None = true
 cond_known columns (Some cond) = list_all (step_known columns) cond.steps
 
+-- the column that is set is there, and each that is read for it
 abbrev pub assign_known : List Column → Assign → Bool
 assign_known columns assign = has_column columns assign.column && sum_known columns assign.sum
 
--- so it is of those that are selected, where they are named
+-- each column that is selected is there, where they are named
 abbrev pub select_known : List Column → Option (List (List ℕ)) → Bool
 select_known columns None = true
 select_known columns (Some names) = list_all (has_column columns) names

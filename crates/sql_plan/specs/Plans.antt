@@ -135,6 +135,7 @@ abbrev pub by_value : Option Value → Path
 by_value None = path.Scan
 by_value (Some key) = path.Key key
 
+-- by the key of this name where the condition compares it with a value; else by a scan
 abbrev pub by_cond : Option (List ℕ) → Option Cond → Path
 by_cond None where_is = path.Scan
 by_cond (Some key) where_is = by_value (key_in_cond key where_is)

@@ -62,11 +62,12 @@ abbrev pub schema_with : Flags → List Item → Option (List ℕ) → Option Sc
 schema_with flags items key =
     cond (list_any (is_torn key) items) None (schema_of_columns flags (filter_map (column_of key) items) key)
 
--- The schema that a CREATE asks for: nothing where more than one key is named, or it suits not.
+-- the schema of items that name these keys: none where more than one is named
 abbrev pub schema_for : Flags → List Item → List (List ℕ) → Option Schema
 schema_for flags items [] = schema_with flags items None
 schema_for flags items (key ∷ []) = schema_with flags items (Some key)
 schema_for flags items (key ∷ other ∷ keys) = None
 
+-- the schema that a CREATE with these items asks for
 abbrev pub created_schema : Flags → List Item → Option Schema
 created_schema flags items = schema_for flags items (keys_named items)

@@ -51,6 +51,7 @@ abbrev pub range_refusal : Literal → Option Refusal
 range_refusal (literal.Int n) = cond (is_big_int n) None (Some OutOfRange)
 range_refusal _ = None
 
+-- an operand is no literal outside BIGINT
 abbrev pub operand_range : Operand → Option Refusal
 operand_range (operand.Literal it) = range_refusal it
 operand_range (operand.Column name) = None
@@ -77,11 +78,12 @@ seen_after (Some seen) it = Some seen
 abbrev pub operand_refusal : List Column → Bool → Option ValueType → Operand → Option Refusal
 operand_refusal columns several seen it = cond (may_stand several seen (type_of columns it)) (operand_range it) (Some WrongType)
 
--- the first of the operands that may not, from the left; and what was seen behind them
+-- why the first of the terms that may not, from the left, may not stand there
 abbrev pub terms_refusal : List Column → Option ValueType → List Term → Option Refusal
 terms_refusal columns seen [] = None
 terms_refusal columns seen (it ∷ rest) = first_of_two (operand_refusal columns true seen it.operand) (terms_refusal columns (seen_after seen (type_of columns it.operand)) rest)
 
+-- which type was seen behind terms
 abbrev pub seen_behind : List Column → Option ValueType → List Term → Option ValueType
 seen_behind columns seen [] = seen
 seen_behind columns seen (it ∷ rest) = seen_behind columns (seen_after seen (type_of columns it.operand)) rest
@@ -91,26 +93,31 @@ abbrev pub has_terms : List Term → Bool
 has_terms [] = false
 has_terms (it ∷ rest) = true
 
+-- why a sum may not stand where this type was seen before
 abbrev pub sum_refusal : List Column → Option ValueType → Sum → Option Refusal
 sum_refusal columns seen sum = first_of_two (operand_refusal columns (has_terms sum.rest) seen sum.first) (terms_refusal columns (seen_after seen (type_of columns sum.first)) sum.rest)
 
+-- which type was seen behind a sum
 abbrev pub sum_seen : List Column → Option ValueType → Sum → Option ValueType
 sum_seen columns seen sum = seen_behind columns (seen_after seen (type_of columns sum.first)) sum.rest
 
--- the first fault of a step, of the steps of a condition, of what is set
+-- why a step of a condition is refused
 abbrev pub step_refusal : List Column → Step → Option Refusal
 step_refusal columns (step.Compare left op right) = first_of_two (sum_refusal columns None left) (sum_refusal columns (sum_seen columns None left) right)
 step_refusal columns (step.IsNull sum negated) = sum_refusal columns None sum
 step_refusal columns _ = None
 
+-- why the first of the steps that is refused is
 abbrev pub steps_refusal : List Column → List Step → Option Refusal
 steps_refusal columns [] = None
 steps_refusal columns (it ∷ rest) = first_of_two (step_refusal columns it) (steps_refusal columns rest)
 
+-- why a condition is refused, where there is one
 abbrev pub cond_refusal : List Column → Option Cond → Option Refusal
 cond_refusal columns None = None
 cond_refusal columns (Some cond) = steps_refusal columns cond.steps
 
+-- why the first of the assignments that is refused is: the type of its column counts as seen before
 abbrev pub sets_refusal : List Column → List Assign → Option Refusal
 sets_refusal columns [] = None
 sets_refusal columns (it ∷ rest) = first_of_two (sum_refusal columns (type_named columns it.column) it.sum) (sets_refusal columns rest)
@@ -119,11 +126,13 @@ sets_refusal columns (it ∷ rest) = first_of_two (sum_refusal columns (type_nam
 abbrev pub value_refusal : Column → Literal → Option Refusal
 value_refusal column it = cond (may_stand false (Some (type_of_kind column.kind)) (type_of_literal it)) (range_refusal it) (Some WrongType)
 
+-- why the first of the values of a row that may not stand in its column may not
 abbrev pub values_refusal : List Column → List Literal → Option Refusal
 values_refusal [] values = None
 values_refusal (column ∷ columns) [] = None
 values_refusal (column ∷ columns) (it ∷ rest) = first_of_two (value_refusal column it) (values_refusal columns rest)
 
+-- why the first of the rows that is refused is
 abbrev pub rows_refusal : List Column → List Literals → Option Refusal
 rows_refusal columns [] = None
 rows_refusal columns (it ∷ rest) = first_of_two (values_refusal columns it.values) (rows_refusal columns rest)
