@@ -1,5 +1,5 @@
 //! Rows by key: a row is found by binary search, over slots that are read in key order.
-ghost use Rattle.std.specs.Prelude.{◌≡◌, ◌≤◌, ◌<◌, [], length, get_or, IfSome, Some};
+ghost use Rattle.std.specs.Prelude.{◌≡◌, ◌≤◌, ◌<◌, [], length, get_or, IfSome, Some, None};
 ghost use Rattle.sql_value.specs.Values.{value_cmp};
 ghost use Rattle.log_tables.specs.Keys.{key_in, IsInKeyOrder, IsOrdered};
 ghost use Rattle.row_store.specs.Slots.{row_in as row_of, rows_in};
@@ -101,6 +101,7 @@ pub(crate) fn place_in(
     row: &Row,
 ) -> Option<usize>
     ensures within { IfSome result (λ i. i ≤ length order.now.items) }
+    ensures end { key ≡ None → IfSome result (λ i. i ≡ length order.now.items) }
     ensures found { IsOrdered key (rows_in slots.now order.now.items)
         → Takes key row.now (rows_in slots.now order.now.items) result }
 {

@@ -1,5 +1,5 @@
 //! The rows of one table.
-ghost use Rattle.std.specs.Prelude.{◌≡◌, ◌≤◌, ◌<◌, ◌+◌, None, [], length, insert, remove, slice_get, Some, OnOk, OnErr};
+ghost use Rattle.std.specs.Prelude.{◌≡◌, ◌≤◌, ◌<◌, ◌+◌, None, [], length, insert, remove, slice_get, Some, OnOk, OnErr, IfOk};
 ghost use Rattle.std.specs.Option.{option_copied};
 ghost use Rattle.row_store.specs.Rows.{Inserts, Replaces, IsAtKey};
 
@@ -15,7 +15,7 @@ use std::marker::Model;
 /// in this order, from 0. (This project's own.)
 ///
 /// `spare` is for how many rows more there is memory: `reserve` makes it, an insert takes one, and a removal gives one back. So a change
-/// can be undone without memory. The rows that are given have passed `check_row`.
+/// can be undone without memory. No call asks that a row has passed `check_row`.
 #[derive(Drop)]
 pub struct RowTable {
     schema: Schema,
@@ -123,12 +123,14 @@ impl RowTable {
         }
     }
 
-    /// Adds a row, in key order or at the end, and tells its place. The row is handed back exactly where its key is there. No memory is
-    /// taken.
+    /// Adds a row, in key order, or at the end where there is no key, and tells its place. The row is handed back exactly where its key is
+    /// there. No memory is taken.
     pub fn insert(&mut self, row: Row) -> Result<u32, Row>
         requires spare { 0 < self.old.spare }
         requires few { length self.old.rows < 4294967295 }
         ensures inserts { Inserts row self.old self.new result }
+        ensures end { self.old.schema.key ≡ None
+            → IfOk result (λ place. place ≡ length self.old.rows) }
     {
         let Some(i) = place_in(self.schema.key, &self.slots, &self.order, &row) else {
             return Err(row);
