@@ -53,7 +53,7 @@ abbrev pub raised : Bool → ℕ → ℕ
 raised takes version = cond takes (capped (version + 1)) version
 
 -- The dictionary after a change, which the tables of its definitions and the installed engines go through as a log's do.
--- One that does not apply leaves all as it is.
+-- One that takes no effect leaves all as it is.
 abbrev pub dictionary_change : Change → DictionaryState → DictionaryState
 dictionary_change change old = record {
   definitions = definitions_of (after_change change (bare_tables old.definitions));

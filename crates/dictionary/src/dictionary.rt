@@ -211,10 +211,10 @@ impl Dictionary {
         }
     }
 
-    /// Makes a change of the log. One that does not apply leaves all as it is, the version too: CREATE of a table that is there, DROP of
+    /// Makes a change of the log. One that takes no effect leaves all as it is, the version too: CREATE of a table that is there, DROP of
     /// one that is not, INSTALL of an engine that is installed, UNINSTALL of one that is not. So does a row change.
     ///
-    /// `AllocError` for want of memory, only where the change applies and is no row change. Then all is as it was.
+    /// `AllocError` for want of memory, only where the change takes effect. Then all is as it was.
     pub fn apply(&mut self, change: &Change) -> Result<(), AllocError>
         ensures ok { OnOk result (self.new ≡ dictionary_change change.now self.old) }
         ensures tells { (changes : List Change) → Tells changes self.old

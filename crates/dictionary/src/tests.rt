@@ -130,91 +130,59 @@ fn has_engines(rt: &impl Abort, dictionary: &Dictionary, engines: &[u8]) {
     }
 }
 
+const A_IN_M: (u8, u8) = (b'a', b'M');
+
+const A_IN_C: (u8, u8) = (b'a', b'C');
+
+const B_IN_B: (u8, u8) = (b'b', b'B');
+
+const C_IN_P: (u8, u8) = (b'c', b'P');
+
 #[test]
-fn changes_by_hand(rt: HostRuntime) -> Result<(), Fail> {
+fn tables_by_hand(rt: HostRuntime) -> Result<(), Fail> {
     let alloc = rt.alloc();
     let mut dictionary = Dictionary::new(alloc)?;
     is_send(&dictionary);
-    has_engines(&rt, &dictionary, b"MBC");
-    let rows: [(Step, &[(u8, u8)], &[u8], u64); 15] = [
-        (Step::Create(b'a', b'M'), &[(b'a', b'M')], b"MBC", 1),
-        (
-            Step::Create(b'b', b'B'),
-            &[(b'a', b'M'), (b'b', b'B')],
-            b"MBC",
-            2,
-        ),
-        (
-            Step::Create(b'a', b'C'),
-            &[(b'a', b'M'), (b'b', b'B')],
-            b"MBC",
-            2,
-        ),
-        (
-            Step::Create(b'c', b'P'),
-            &[(b'a', b'M'), (b'b', b'B'), (b'c', b'P')],
-            b"MBC",
-            3,
-        ),
-        (Step::Drop(b'a'), &[(b'b', b'B'), (b'c', b'P')], b"MBC", 4),
-        (Step::Drop(b'a'), &[(b'b', b'B'), (b'c', b'P')], b"MBC", 4),
-        (
-            Step::Create(b'a', b'C'),
-            &[(b'b', b'B'), (b'c', b'P'), (b'a', b'C')],
-            b"MBC",
-            5,
-        ),
-        (Step::Drop(b'c'), &[(b'b', b'B'), (b'a', b'C')], b"MBC", 6),
-        (
-            Step::Install(b'P'),
-            &[(b'b', b'B'), (b'a', b'C')],
-            b"MBCP",
-            7,
-        ),
-        (
-            Step::Install(b'P'),
-            &[(b'b', b'B'), (b'a', b'C')],
-            b"MBCP",
-            7,
-        ),
-        (
-            Step::Install(b'J'),
-            &[(b'b', b'B'), (b'a', b'C')],
-            b"MBCPJ",
-            8,
-        ),
-        (
-            Step::Uninstall(b'B'),
-            &[(b'b', b'B'), (b'a', b'C')],
-            b"MCPJ",
-            9,
-        ),
-        (
-            Step::Uninstall(b'B'),
-            &[(b'b', b'B'), (b'a', b'C')],
-            b"MCPJ",
-            9,
-        ),
-        (
-            Step::Install(b'B'),
-            &[(b'b', b'B'), (b'a', b'C')],
-            b"MCPJB",
-            10,
-        ),
-        (
-            Step::Insert(b'a'),
-            &[(b'b', b'B'), (b'a', b'C')],
-            b"MCPJB",
-            10,
-        ),
+    let rows: [(Step, &[(u8, u8)], u64); 9] = [
+        (Step::Create(b'a', b'M'), &[A_IN_M], 1),
+        (Step::Create(b'b', b'B'), &[A_IN_M, B_IN_B], 2),
+        (Step::Create(b'a', b'C'), &[A_IN_M, B_IN_B], 2),
+        (Step::Create(b'c', b'P'), &[A_IN_M, B_IN_B, C_IN_P], 3),
+        (Step::Drop(b'a'), &[B_IN_B, C_IN_P], 4),
+        (Step::Drop(b'a'), &[B_IN_B, C_IN_P], 4),
+        (Step::Create(b'a', b'C'), &[B_IN_B, C_IN_P, A_IN_C], 5),
+        (Step::Drop(b'c'), &[B_IN_B, A_IN_C], 6),
+        (Step::Insert(b'a'), &[B_IN_B, A_IN_C], 6),
     ];
-    for (i, (step, tables, engines, version)) in rows.iter().enumerate() {
+    for (i, (step, tables, version)) in rows.iter().enumerate() {
         apply(&rt, alloc, &mut dictionary, *step)?;
         has_tables(&rt, alloc, &dictionary, *tables)?;
-        has_engines(&rt, &dictionary, *engines);
+        has_engines(&rt, &dictionary, b"MBC");
         assert_eq!(rt; dictionary.version(), *version, "row {i}");
     }
     assert!(rt; dictionary.find(&name(&rt, alloc, b'c')?).is_none());
+    Ok(())
+}
+
+#[test]
+fn engines_by_hand(rt: HostRuntime) -> Result<(), Fail> {
+    let alloc = rt.alloc();
+    let mut dictionary = Dictionary::new(alloc)?;
+    has_engines(&rt, &dictionary, b"MBC");
+    let rows: [(Step, &[u8], u64); 6] = [
+        (Step::Install(b'P'), b"MBCP", 1),
+        (Step::Install(b'P'), b"MBCP", 1),
+        (Step::Install(b'J'), b"MBCPJ", 2),
+        (Step::Uninstall(b'B'), b"MCPJ", 3),
+        (Step::Uninstall(b'B'), b"MCPJ", 3),
+        (Step::Install(b'B'), b"MCPJB", 4),
+    ];
+    for (i, (step, engines, version)) in rows.iter().enumerate() {
+        apply(&rt, alloc, &mut dictionary, *step)?;
+        has_tables(&rt, alloc, &dictionary, &[])?;
+        has_engines(&rt, &dictionary, *engines);
+        assert_eq!(rt; dictionary.version(), *version, "row {i}");
+    }
     Ok(())
 }
 
