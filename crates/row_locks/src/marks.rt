@@ -1,6 +1,6 @@
 //! The owners that reach one: each waits for it, or for another of these.
 //!
-//! Each request is looked at once for each wait, so the work grows with the number of requests times the number of waits.
+//! The work grows with the number of requests times the number of waits.
 ghost use Rattle.std.specs.Prelude.{◌≡◌, ◌≤◌, ◌<◌, ◌++◌, ◌∷◌, [], true, OnOk, IfOk, length, drop};
 ghost use Rattle.std.specs.Prelude.{slice_set};
 ghost use Rattle.std.specs.Vec.{vec_len};
