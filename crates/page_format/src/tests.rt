@@ -112,6 +112,8 @@ fn bytes_are_as_by_hand(rt: HostRuntime) -> Result<(), Fail> {
     assert!(rt; read.row(1) == Some(b"xyz".as_slice()));
     assert!(rt; read.remove(0));
     assert_eq!(rt; read.insert(b"c"), Ok(0));
+    // It stands below the lowest record, where there is room: nothing is moved.
+    assert!(rt; read.bytes().get(4090..4094) == Some(b"cxyz".as_slice()));
     assert!(rt; read.row(1) == Some(b"xyz".as_slice()));
     Ok(())
 }
