@@ -1,7 +1,7 @@
 //! A slot: one plugin, from its install to its end.
 //!
 //! ```text
-//! Live --uninstall accepted--> Dying --reap, once nobody refers to it--> Gone
+//! Live --accept_uninstall--> Dying --reap, once nobody refers to it--> Gone
 //! ```
 ghost use Rattle.std.specs.Prelude.{◌≡◌, ◌≢◌, ◌↔◌, ◌⊎◌, [], IsTrue, IsOk, OnOk, OnErr, true, false};
 ghost use Rattle.plugin_registry.specs.Holders.{refers};
@@ -19,7 +19,7 @@ pub enum Phase {
     Live,
     /// Its uninstall was accepted: who refers to it goes on with it, and nobody else gets it.
     Dying,
-    /// Nobody refers to it, and it was ended. Its slot is not used again.
+    /// It was reaped: nobody refers to it, and its plugin may be ended. Its slot is not used again.
     Gone,
 }
 
