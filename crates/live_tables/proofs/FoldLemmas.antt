@@ -15,7 +15,7 @@ use Rattle.log_tables.specs.Tables.{is_named, table_named, at_table, new_table}
 use Rattle.log_tables.specs.Changes.{after_change, after_changes, all_apply, changed, with_rows, rows_after, takes, applies, names_table}
 use Rattle.log_tables.proofs.PartLemmas.{cases, cond_true, cond_false, taken}
 use Rattle.engine_api.specs.Live.{schema_found, rows_found, row_found, row_at, live_bytes, table_bytes}
-use Rattle.live_tables.specs.Folds.{AreInOrder, AreMade, rows_changed, found_after, fits, through, schema_step, rows_step, replaced, row_own, row_step, key_found, bytes_found, change_bytes, freed, grows, AllGrow}
+use Rattle.live_tables.specs.Folds.{AreInOrder, AreMade, rows_changed, found_after, fits, through, schema_step, rows_step, replaced, row_own, row_step, key_found, bytes_found, change_bytes, freed}
 use Rattle.live_tables.proofs.NameLemmas.{no, none_is, found_stays, named_after, applies_found}
 use Rattle.live_tables.proofs.RowLemmas.{one, length_sum}
 use Rattle.live_tables.proofs.EditLemmas.{some_same, none_some, suited, some_of, sum_of, IsEdit, insert_edit, update_edit, delete_edit, replace, look_replaced}
@@ -228,11 +228,12 @@ row_after n column key cs ts made fit keyed =
 
 -- bytes
 
-abbrev image : List Value → ℕ
+-- the bytes of a row
+abbrev pub image : List Value → ℕ
 image row = length (row_image row)
 
--- a table that is taken out gives its bytes back
-drop_bytes : (n : List ℕ) (ts : List Table) → live_bytes (at_table n (λ _. []) ts) + bytes_found (table_named n ts) ≡ live_bytes ts
+-- A table that is taken out gives its bytes back.
+pub drop_bytes : (n : List ℕ) (ts : List Table) → live_bytes (at_table n (λ _. []) ts) + bytes_found (table_named n ts) ≡ live_bytes ts
 drop_bytes n [] = refl
 drop_bytes n (t ∷ ts) = elim (cases (is_named n t)) [
   | inl here ↦
@@ -249,8 +250,8 @@ drop_bytes n (t ∷ ts) = elim (cases (is_named n t)) [
       ∙ omega (arith, rest, all, new)
 ]
 
--- a row change that applies to a table
-edit_bytes : (c : Change) (e : IsEdit c) (t : Table) → takes c (Some t) ≡ true → IsOrdered t.definition.schema.key t.rows
+-- A row change that applies to a table adds the bytes of the row after, and takes those of the row before.
+pub edit_bytes : (c : Change) (e : IsEdit c) (t : Table) → takes c (Some t) ≡ true → IsOrdered t.definition.schema.key t.rows
     → table_bytes (with_rows t (rows_after c t)) + sum_of image e.before ≡ table_bytes t + sum_of image e.after
 edit_bytes c e t fit ordered =
     let rows = some_of (rows_after c t) fit in
@@ -286,23 +287,3 @@ bytes_one (Update map place before after) ts fit ordered = edit_all_bytes map.ta
 bytes_one (Delete map place before) ts fit ordered = edit_all_bytes map.table (Delete map place before) (delete_edit map place before) ts fit ordered
 bytes_one (Install e) ts fit ordered = omega arith
 bytes_one (Uninstall e) ts fit ordered = omega arith
-
-grows_free : (c : Change) (ts : List Table) → grows c ≡ true → freed c ts ≡ 0
-grows_free (Create n e s) ts h = refl
-grows_free (Drop n) ts h = absurd (no h)
-grows_free (Insert map row) ts h = refl
-grows_free (Update map place before after) ts h = absurd (no h)
-grows_free (Delete map place before) ts h = absurd (no h)
-grows_free (Install e) ts h = refl
-grows_free (Uninstall e) ts h = refl
-
--- Changes that apply and take none add their bytes.
-pub bytes_after : (cs : List Change) (ts : List Table) → AllGrow cs → AreMade ts → all_apply cs ts ≡ true → live_bytes (after_changes cs ts) ≡ live_bytes ts + sum_by change_bytes cs
-bytes_after [] ts grow made fit = omega arith
-bytes_after (c ∷ cs) ts grow made fit =
-    let both = and_parts (applies c ts) (all_apply cs (after_change c ts)) fit in
-    let first = bytes_one c ts both.0 made.rows in
-    let none = grows_free c ts grow.0 in
-    let rest = bytes_after cs (after_change c ts) grow.1 (made_after c ts made) both.1 in
-    let all = sum_by-cons change_bytes c cs in
-    omega (arith, first, none, rest, all)

@@ -4,6 +4,7 @@ pub mod EditLemmas
 pub mod MadeLemmas
 pub mod BackLemmas
 pub mod FoldLemmas
+pub mod GoneLemmas
 pub mod MeetLemmas
 pub mod AgreeLemmas
 pub mod ApartLemmas
@@ -12,6 +13,7 @@ pub mod SoundLaws
 pub mod StoredLemmas
 pub mod BytesLemmas
 pub mod SeekLemmas
+pub mod ShrinkLemmas
 pub mod TablesLemmas
 pub mod OpenLemmas
 pub mod LookLemmas

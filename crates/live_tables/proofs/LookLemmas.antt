@@ -10,7 +10,7 @@ use Rattle.log_tables.specs.Tables.{table_named}
 use Rattle.log_tables.specs.Changes.{after_changes, all_apply, takes, applies, names_table}
 use Rattle.engine_api.specs.States.{EngineState, live_tables}
 use Rattle.engine_api.specs.Live.{schema_found, rows_found, is_taken_in, is_taken, live_schema, insert_into, IsRowFor}
-use Rattle.live_tables.specs.Folds.{AreMade, through, schema_step, rows_own, rows_step, grows}
+use Rattle.live_tables.specs.Folds.{AreMade, through, schema_step, rows_own, rows_step}
 use Rattle.live_tables.proofs.MadeLemmas.{all_made}
 use Rattle.live_tables.proofs.RowBehindLemmas.{takes_found}
 use Rattle.live_tables.proofs.FoldLemmas.{schema_after, count_after}
@@ -70,14 +70,3 @@ through_within n (c ∷ cs) count =
 pub rows_within : (n : List ℕ) (cs : List Change) (ts : List Table) → AreMade ts → all_apply cs ts ≡ true
     → length (rows_found (table_named n (after_changes cs ts))) ≤ length (rows_found (table_named n ts)) + length cs
 rows_within n cs ts made fit = let all = count_after n cs ts made fit in let few = through_within n cs (length (rows_found (table_named n ts))) in omega (arith, all, few)
-
--- The insert of a row takes no bytes.
-pub insert_grows : (n : List ℕ) (row : List Value) (change : Change) (o : Option Schema) → Some change ≡ insert_into n o row → grows change ≡ true
-insert_grows n row change None into = absurd (never into)
-  where
-    never : Some change ≡ None → ⊥
-    never q = cc
-insert_grows n row change (Some s) into = ap grows (some into)
-  where
-    some : {a b : Change} → Some a ≡ Some b → a ≡ b
-    some q = cc

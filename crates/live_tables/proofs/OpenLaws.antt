@@ -19,7 +19,7 @@ use Rattle.log_tables.proofs.FoldLemmas.{after_changes-append}
 use Rattle.log_tables.proofs.PartLemmas.{cases, cond_true, cond_false}
 use Rattle.engine_api.specs.States.{Pending, is_by, pending_of, without_txn, changes_of, xid_of, changes_by, xid_by, changes_in}
 use Rattle.engine_api.specs.Live.{meets, meets_any}
-use Rattle.live_tables.specs.Folds.{AreMade, AllGrow, Apart, Agree, change_bytes}
+use Rattle.live_tables.specs.Folds.{AreMade, Apart, Agree, change_bytes}
 use Rattle.live_tables.specs.Opens.{AreDistinct, AllApart, share_of, shares, HaveOwnXids}
 use Rattle.live_tables.proofs.NameLemmas.{yes_no}
 use Rattle.live_tables.proofs.FoldLemmas.{all_apply_append}
@@ -171,36 +171,6 @@ left_by txn (p ∷ ps) others h =
     elim (cases (is_by txn p)) [
       | inl own ↦ subst (λ o. Apart (changes_of o) others) (sym (own_found txn p ps own)) parts.0
       | inr other ↦ subst (λ o. Apart (changes_of o) others) (sym (other_found txn p ps other)) (left_by txn ps others parts.1)
-    ]
-
--- Two lists take no bytes where each takes none.
-pub grow_append : (cs ds : List Change) → AllGrow cs → AllGrow ds → AllGrow (cs ++ ds)
-grow_append [] ds of_cs of_ds = of_ds
-grow_append (c ∷ cs) ds of_cs of_ds = (of_cs.0, grow_append cs ds of_cs.1 of_ds)
-
-grow_parts : (cs ds : List Change) → AllGrow (cs ++ ds) → AllGrow cs × AllGrow ds
-grow_parts [] ds grow = (tt, grow)
-grow_parts (c ∷ cs) ds grow = let rest = grow_parts cs ds grow.1 in ((grow.0, rest.0), rest.1)
-
--- What is pending takes none without a transaction.
-pub grow_without : (txn : ℕ) (ps : List Pending) → AllGrow (changes_in ps) → AllGrow (changes_in (without_txn txn ps))
-grow_without txn [] grow = tt
-grow_without txn (p ∷ ps) grow =
-    let parts = grow_parts p.changes (changes_in ps) grow in
-    let rest = grow_without txn ps parts.1 in
-    elim (cases (is_by txn p)) [
-      | inl own ↦ subst (λ xs. AllGrow (changes_in xs)) (sym (own_out txn p ps own)) rest
-      | inr other ↦ subst (λ xs. AllGrow (changes_in xs)) (sym (other_kept txn p ps other)) (grow_append p.changes (changes_in (without_txn txn ps)) parts.0 rest)
-    ]
-
--- And so of its own changes.
-pub grow_by : (txn : ℕ) (ps : List Pending) → AllGrow (changes_in ps) → AllGrow (changes_by txn ps)
-grow_by txn [] grow = tt
-grow_by txn (p ∷ ps) grow =
-    let parts = grow_parts p.changes (changes_in ps) grow in
-    elim (cases (is_by txn p)) [
-      | inl own ↦ subst (λ o. AllGrow (changes_of o)) (sym (own_found txn p ps own)) parts.0
-      | inr other ↦ subst (λ o. AllGrow (changes_of o)) (sym (other_found txn p ps other)) (grow_by txn ps parts.1)
     ]
 
 -- Without a transaction all are apart.

@@ -17,7 +17,7 @@ use Rattle.log_tables.proofs.FoldLemmas.{after_changes-append}
 use Rattle.log_tables.proofs.PartLemmas.{cases, cond_true, cond_false}
 use Rattle.engine_api.specs.States.{Pending, without_txn, changes_by, xid_by, changes_in}
 use Rattle.engine_api.specs.Live.{meets, meets_any, has_under, same_number}
-use Rattle.live_tables.specs.Folds.{AreMade, grows, AllGrow, found_after, fits, Apart}
+use Rattle.live_tables.specs.Folds.{AreMade, found_after, fits, Apart}
 use Rattle.live_tables.specs.Opens.{AreDistinct, changes_left, shares, HaveOwnXids}
 use Rattle.live_tables.specs.Live.{AreSound}
 use Rattle.live_tables.proofs.NameLemmas.{no, found_stays, named_after, applies_found}
@@ -26,20 +26,19 @@ use Rattle.live_tables.proofs.FoldLemmas.{all_apply_append}
 use Rattle.live_tables.proofs.MeetLemmas.{meets_sym, or_false, apart_sym}
 use Rattle.live_tables.proofs.AgreeLemmas.{agree_applies, agree_all_apply}
 use Rattle.live_tables.proofs.ApartLemmas.{both_fit, keys_only, applies_from, pass_one}
-use Rattle.live_tables.proofs.OpenLaws.{neither, none_some, changes_last, distinct_without, distinct_moved, apart_append_left, apart_append_left_parts, grow_append, grow_without, grow_by, left_without, left_by, all_apart_without, apart_by, all_apart_last, to_front, to_end, left_out, shares_append, shares_unshared, prepared_first, without_unprepared, xids_last, xids_without, xid_out, xid_kept}
+use Rattle.live_tables.proofs.OpenLaws.{neither, none_some, changes_last, distinct_without, distinct_moved, apart_append_left, apart_append_left_parts, left_without, left_by, all_apart_without, apart_by, all_apart_last, to_front, to_end, left_out, shares_append, shares_unshared, prepared_first, without_unprepared, xids_last, xids_without, xid_out, xid_kept}
 
 -- A transaction moves to the end, with these changes and under this xid.
 sound_moved : (p : Pending) (txn : ℕ) (ts : List Table) (done : List Change) (left : List Prepared) (ps : List Pending) → AreSound ts done left ps → p.txn ≡ txn
-    → all_apply (changes_in (without_txn txn ps) ++ p.changes) (after_changes done ts) ≡ true → AllGrow p.changes → Apart p.changes (changes_in (without_txn txn ps)) → Apart p.changes (changes_left left)
+    → all_apply (changes_in (without_txn txn ps) ++ p.changes) (after_changes done ts) ≡ true → Apart p.changes (changes_in (without_txn txn ps)) → Apart p.changes (changes_left left)
     → HaveOwnXids (left ++ shares (without_txn txn ps ++ p ∷ [])) → AreSound ts done left (without_txn txn ps ++ p ∷ [])
-sound_moved p txn ts done left ps s same fit grow apart from_left own =
+sound_moved p txn ts done left ps s same fit apart from_left own =
     let others = without_txn txn ps in
     let both = apart_append_left (changes_in others) p.changes (changes_left left) (left_without txn ps (changes_left left) s.apart_left) from_left in
     record {
       made = s.made;
       done_fit = s.done_fit;
       open_fit = ap (λ xs. all_apply xs (after_changes done ts)) (changes_last others p) ∙ fit;
-      grow = subst AllGrow (sym (changes_last others p)) (grow_append (changes_in others) p.changes (grow_without txn ps s.grow) grow);
       apart = all_apart_last p others (all_apart_without txn ps s.apart) apart;
       apart_left = subst (λ xs. Apart xs (changes_left left)) (sym (changes_last others p)) both;
       distinct = distinct_moved txn p ps s.distinct same;
@@ -61,10 +60,10 @@ shares_changed txn cs ps d h =
 
 -- One change more, that applies to the live tables and meets none of another transaction.
 pub sound_changed : (txn : ℕ) (c : Change) (ts : List Table) (done : List Change) (left : List Prepared) (ps : List Pending) → AreSound ts done left ps → xid_by txn ps ≡ None
-    → applies c (after_changes (changes_in ps) (after_changes done ts)) ≡ true → grows c ≡ true → meets_any c (changes_in (without_txn txn ps)) ≡ false
+    → applies c (after_changes (changes_in ps) (after_changes done ts)) ≡ true → meets_any c (changes_in (without_txn txn ps)) ≡ false
     → list_any (λ it. meets_any c it.changes) (left ++ shares ps) ≡ false
     → AreSound ts done left (without_txn txn ps ++ (record { txn = txn; under = None; changes = changes_by txn ps ++ c ∷ [] }) ∷ [])
-sound_changed txn c ts done left ps s under fit grow free from_prepared =
+sound_changed txn c ts done left ps s under fit free from_prepared =
     let base = after_changes done ts in
     let own = changes_by txn ps in
     let others = changes_in (without_txn txn ps) in
@@ -76,7 +75,6 @@ sound_changed txn c ts done left ps s under fit grow free from_prepared =
     (sym (list_any-append (λ it. meets_any c it.changes) left (shares ps)) ∙ from_prepared) in
     sound_moved (record { txn = txn; under = None; changes = own ++ c ∷ [] }) txn ts done left ps s refl
     (ap (λ xs. all_apply xs base) (sym (append_assoc others own (c ∷ []))) ∙ all)
-    (grow_append own (c ∷ []) (grow_by txn ps s.grow) (grow, tt))
     (apart_append_left own (c ∷ []) others (apart_by txn ps s.distinct s.apart) (free, tt))
     (apart_append_left own (c ∷ []) (changes_left left) (left_by txn ps (changes_left left) s.apart_left) (any_left c left ∙ clear.0, tt))
     (subst (λ xs. HaveOwnXids (left ++ xs)) (sym (shares_changed txn (own ++ c ∷ []) ps s.distinct under)) s.xids)
@@ -98,7 +96,6 @@ sound_prepared txn xid ts done left ps s under free =
     let is = append_assoc left (shares ps) (it ∷ []) ∙ ap (λ xs. left ++ xs) (sym (shares_prepared txn xid own ps s.distinct under)) in
     sound_moved (record { txn = txn; under = Some xid; changes = own }) txn ts done left ps s refl
     (to_end txn ps (after_changes done ts) (all_made done ts s.made) s.distinct s.apart s.open_fit).0
-    (grow_by txn ps s.grow)
     (apart_by txn ps s.distinct s.apart)
     (left_by txn ps (changes_left left) s.apart_left)
     (subst HaveOwnXids is (xids_last it (left ++ shares ps) s.xids free))
@@ -116,7 +113,6 @@ sound_committed txn ts done left ps s =
       made = s.made;
       done_fit = all_apply_append done own ts ∙ and_from (all_apply done ts) (all_apply own base) s.done_fit parts.0;
       open_fit = ap (all_apply others) (after_changes-append done own ts) ∙ parts.1;
-      grow = grow_without txn ps s.grow;
       apart = all_apart_without txn ps s.apart;
       apart_left = left_without txn ps (changes_left left) s.apart_left;
       distinct = distinct_without txn ps s.distinct;
@@ -129,7 +125,6 @@ pub sound_rolled_back : (txn : ℕ) (ts : List Table) (done : List Change) (left
 sound_rolled_back txn ts done left ps s = record {
   made = s.made;
   done_fit = s.done_fit;
-  grow = grow_without txn ps s.grow;
   open_fit = left_out txn ps (after_changes done ts) (all_made done ts s.made) s.distinct s.apart s.open_fit;
   apart = all_apart_without txn ps s.apart;
   apart_left = left_without txn ps (changes_left left) s.apart_left;
@@ -223,7 +218,6 @@ sound_left xid ts done left ps s = record {
   made = s.made;
   done_fit = s.done_fit;
   open_fit = s.open_fit;
-  grow = s.grow;
   apart = s.apart;
   apart_left = apart_sym (changes_left (without_xid xid left)) (changes_in ps) (left_less xid left (changes_in ps) (apart_sym (changes_in ps) (changes_left left) s.apart_left));
   distinct = s.distinct;
@@ -241,7 +235,6 @@ sound_left_committed xid p ts done left ps s found fit =
       made = s.made;
       done_fit = all_apply_append done p.changes ts ∙ and_from (all_apply done ts) (all_apply p.changes base) s.done_fit fit;
       open_fit = ap (all_apply (changes_in ps)) (after_changes-append done p.changes ts) ∙ beside p.changes (changes_in ps) base (all_made done ts s.made) apart s.open_fit fit;
-      grow = s.grow;
       apart = s.apart;
       apart_left = ended.apart_left;
       distinct = s.distinct;
@@ -286,7 +279,6 @@ sound_same ts us done more left ps s made fit same = record {
   made = made;
   done_fit = fit;
   open_fit = ap (all_apply (changes_in ps)) same ∙ s.open_fit;
-  grow = s.grow;
   apart = s.apart;
   apart_left = s.apart_left;
   distinct = s.distinct;

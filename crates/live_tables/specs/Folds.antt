@@ -1,6 +1,6 @@
 -- What a list of changes makes of one table, of its rows and of the bytes, and which lists of changes may change places.
 -- (This project.)
-use Rattle.std.specs.Prelude.{◌≡◌, ◌<◌, ◌+◌, ◌-◌, ◌^◌, ℕ, suc, List, [], ◌∷◌, length, Option, Some, None, Bool, true, false, cond, is_some, is_none, slice_get, IsTrue}
+use Rattle.std.specs.Prelude.{◌≡◌, ◌<◌, ◌+◌, ◌-◌, ◌^◌, ℕ, suc, List, [], ◌∷◌, length, Option, Some, None, Bool, true, false, cond, is_some, is_none, slice_get}
 use Rattle.std.specs.Option.{option_or}
 use Rattle.std.specs.Str.{bytes_eq}
 use Rattle.sql_value.specs.declared.value.Value.{Value}
@@ -164,18 +164,6 @@ freed (Drop table) tables = bytes_found (table_named table tables)
 freed (Update map place before after) tables = length (row_image before)
 freed (Delete map place before) tables = length (row_image before)
 freed _ tables = 0
-
--- the change takes no bytes from the tables
-abbrev pub grows : Change → Bool
-grows (Drop table) = false
-grows (Update map place before after) = false
-grows (Delete map place before) = false
-grows _ = true
-
--- none of these changes takes bytes from the tables
-abbrev pub AllGrow : List Change → Type 0
-AllGrow [] = Unit {0}
-AllGrow (it ∷ rest) = IsTrue (grows it) × AllGrow rest
 
 -- no change of the one list meets one of the other
 abbrev pub Apart : List Change → List Change → Type 0

@@ -10,7 +10,7 @@ use Rattle.engine_api.specs.Live.{live_bytes, HasRoom}
 use Rattle.engine_api.specs.declared.fault.Code.TheVariants.{Full}
 use Rattle.engine_api.specs.declared.fault.EngineFault.{EngineFault}
 use Rattle.engine_api.specs.declared.fault.EngineFault.TheVariants.{Code as code}
-use Rattle.live_tables.specs.Folds.{AreMade, AllGrow, Apart, change_bytes}
+use Rattle.live_tables.specs.Folds.{AreMade, Apart, change_bytes}
 use Rattle.live_tables.specs.Opens.{AreDistinct, AllApart, changes_left, shares, HaveOwnXids}
 
 -- what the tables tell: the state of their engine, and for how many transactions more there is memory
@@ -27,13 +27,11 @@ abbrev pub state_of : List Table → List Change → List Prepared → List Pend
 state_of tables done left pending last = state_with (record { tables = after_changes done tables; prepared = left ++ shares pending; last = last }) pending
 
 -- The tables are as changes make them. The changes that are pending apply to the committed tables, and so do those that are done to the
--- tables; what is pending takes no bytes from them; no change of one transaction meets one of another, or one that is left; and no
--- transaction and no xid stands twice.
+-- tables; no change of one transaction meets one of another, or one that is left; and no transaction and no xid stands twice.
 pub record AreSound (tables : List Table) (done : List Change) (left : List Prepared) (pending : List Pending) : Type 0 where
   pub made : AreMade tables
   pub done_fit : all_apply done tables ≡ true
   pub open_fit : all_apply (changes_in pending) (after_changes done tables) ≡ true
-  pub grow : AllGrow (changes_in pending)
   pub apart : AllApart pending
   pub apart_left : Apart (changes_in pending) (changes_left left)
   pub distinct : AreDistinct pending
@@ -57,6 +55,11 @@ pub record CanMake (tables : List Table) (changes : List Change) (committed : �
   pub fit : all_apply changes tables ≡ true
   pub committed_is : committed ≡ live_bytes tables
   pub small : committed + sum_by change_bytes changes ≤ most_bytes
+
+-- One change more can be made behind what is pending; the bytes of the tables, and those that all these add, are counted together.
+pub record CanAdd (tables : List Table) (pending : List Pending) (change : Change) (counted : ℕ) : Type 0 where
+  pub can : CanMake tables (changes_in pending ++ change ∷ []) (live_bytes tables)
+  pub counted_is : counted ≡ live_bytes tables + sum_by change_bytes (changes_in pending ++ change ∷ [])
 
 -- A change was added: after Ok the next state, whose bytes are within the limit; else the one before; and it is full only where the
 -- bytes would not be.

@@ -37,8 +37,8 @@ fn before_delete(at: Spot, place: u32) -> Spot
     }
 }
 
-// Whether a change is one of the table with this name, or of its rows.
-fn is_of(change: &Change, name: &Name) -> bool
+/// Whether a change is one of the table with this name, or of its rows.
+pub(crate) fn is_of(change: &Change, name: &Name) -> bool
     ensures { result ≡ names_table name.now change.now }
 {
     match change {

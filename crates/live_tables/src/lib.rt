@@ -11,6 +11,7 @@ mod behind;
 mod bytes;
 mod copies;
 mod finish;
+mod gone;
 mod laws;
 mod left;
 mod live;

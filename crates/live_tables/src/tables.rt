@@ -64,8 +64,8 @@ pub(crate) fn row_at<'a>(tables: &'a [Stored], name: &Name, place: usize) -> Opt
     }
 }
 
-// How many bytes the first table of this name has.
-fn bytes(tables: &[Stored], name: &Name) -> u64
+/// How many bytes the first table of this name has.
+pub(crate) fn bytes(tables: &[Stored], name: &Name) -> u64
     ensures { result ≡ capped (bytes_found (table_named name.now tables.now)) }
 {
     match find(tables, name) {

@@ -1,6 +1,6 @@
 //! Transactions by hand, one at a time, and what is left in the tables.
 ghost use Rattle.std.specs.Prelude.{◌≡◌, None, OnOk};
-ghost use Rattle.engine_api.specs.Live.{live_schema, IsRowFor};
+ghost use Rattle.engine_api.specs.Live.{live_schema, IsLive, IsRowFor};
 ghost use Rattle.live_tables.specs.Alone.{IsAlone, IsIdle};
 
 use crate::LiveTables;
@@ -100,6 +100,24 @@ fn insert(
         Ok(()) => Ok(()),
         Err(e) => Err(e),
     }
+}
+
+// A table of this name must be there.
+fn is_there(rt: &impl Abort, tables: &LiveTables, table: &Name)
+    ensures { IsLive table.now tables.now.state }
+{
+    match tables.schema(table) {
+        Some(_) => {}
+        None => rt.abort(),
+    }
+}
+
+fn drop_table(rt: &impl Abort, tables: &mut LiveTables, table: &Name)
+    requires { IsAlone 1 tables.old.state }
+    ensures { IsAlone 1 tables.new.state }
+{
+    is_there(rt, tables, table);
+    is_done(rt, tables.drop_table(1, table));
 }
 
 // Prepares and commits what is pending; between the two the xid must be told.
@@ -340,5 +358,74 @@ fn tables_are_full_at_16_mib(rt: HostRuntime) -> Result<(), Fail> {
     let more = insert(&rt, &mut tables, &t, &row);
     assert!(rt; more == Err(EngineFault::Code(Code::Full)));
     assert_eq!(rt; tables.records(&t), 9357);
+    Ok(())
+}
+
+// The key column of the table of this name.
+fn key_of(rt: &impl Abort, tables: &LiveTables, table: &Name) -> Option<u8> {
+    match tables.schema(table) {
+        Some(schema) => schema.key,
+        None => rt.abort(),
+    }
+}
+
+#[test]
+fn a_dropped_table_is_there_again_after_a_rollback(rt: HostRuntime) -> Result<(), Fail> {
+    let alloc = rt.alloc();
+    let t = name(&rt, alloc, b"t")?;
+    let engine = name(&rt, alloc, b"J")?;
+    let first = pairs(&rt, alloc)?;
+    let second = wide(&rt, alloc)?;
+    let mut tables = LiveTables::new(alloc);
+    is_done(&rt, create(&rt, &mut tables, &engine, &t, &first));
+    is_done(&rt, insert(&rt, &mut tables, &t, &pair(alloc, 1, b"a")?));
+    commit(&rt, &mut tables, 7, 1)?;
+    is_done(&rt, insert(&rt, &mut tables, &t, &pair(alloc, 2, b"b")?));
+    drop_table(&rt, &mut tables, &t);
+    assert!(rt; tables.schema(&t).is_none());
+    is_done(&rt, create(&rt, &mut tables, &engine, &t, &second));
+    is_done(&rt, insert(&rt, &mut tables, &t, &wide_row(alloc)?));
+    assert_eq!(rt; tables.records(&t), 1);
+    assert_eq!(rt; key_of(&rt, &tables, &t), None);
+    assert_eq!(rt; tables.changes(1).len(), 4);
+    tables.rollback(1);
+    assert_eq!(rt; key_of(&rt, &tables, &t), Some(0));
+    assert_eq!(rt; tables.records(&t), 1);
+    assert!(rt; text_at(&rt, &tables, &t, 1) == Some(b"a".as_slice()));
+    drop_table(&rt, &mut tables, &t);
+    is_done(&rt, create(&rt, &mut tables, &engine, &t, &second));
+    commit(&rt, &mut tables, 8, 2)?;
+    assert_eq!(rt; key_of(&rt, &tables, &t), None);
+    assert_eq!(rt; tables.records(&t), 0);
+    Ok(())
+}
+
+// As above, the table has 76 bytes less than the limit; a table without rows has 39.
+#[test]
+fn a_dropped_table_leaves_its_bytes_until_it_is_rolled_back(rt: HostRuntime) -> Result<(), Fail> {
+    let alloc = rt.alloc();
+    let t = name(&rt, alloc, b"t")?;
+    let engine = name(&rt, alloc, b"J")?;
+    let schema = wide(&rt, alloc)?;
+    let row = wide_row(alloc)?;
+    let full = Err(EngineFault::Code(Code::Full));
+    let mut tables = LiveTables::new(alloc);
+    is_done(&rt, create(&rt, &mut tables, &engine, &t, &schema));
+    fill(&rt, &mut tables, &t, &row, 3100);
+    commit(&rt, &mut tables, 7, 1)?;
+    fill(&rt, &mut tables, &t, &row, 3100);
+    commit(&rt, &mut tables, 8, 2)?;
+    fill(&rt, &mut tables, &t, &row, 3100);
+    commit(&rt, &mut tables, 9, 3)?;
+    fill(&rt, &mut tables, &t, &row, 57);
+    assert!(rt; insert(&rt, &mut tables, &t, &row) == full);
+    drop_table(&rt, &mut tables, &t);
+    is_done(&rt, create(&rt, &mut tables, &engine, &t, &schema));
+    fill(&rt, &mut tables, &t, &row, 100);
+    assert_eq!(rt; tables.records(&t), 100);
+    tables.rollback(1);
+    assert_eq!(rt; tables.records(&t), 9300);
+    fill(&rt, &mut tables, &t, &row, 57);
+    assert!(rt; insert(&rt, &mut tables, &t, &row) == full);
     Ok(())
 }

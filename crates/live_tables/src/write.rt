@@ -1,20 +1,20 @@
-//! Changes of transactions: a table, or a row.
+//! Changes of transactions: a table made or dropped, or a row.
 ghost use Rattle.std.specs.Prelude.{◌≡◌, ◌≤◌, ◌+◌, ◌∷◌, [], None, Err, OnOk, OnErr, IsTrue, false, true, IfOk, Some, nat_le, is_some};
 ghost use Rattle.row_format.specs.declared.change.Change.{Change};
-ghost use Rattle.row_format.specs.declared.change.Change.TheVariants.{Create};
+ghost use Rattle.row_format.specs.declared.change.Change.TheVariants.{Create, Drop};
 ghost use Rattle.row_format.specs.Schemas.{IsSchema};
 ghost use Rattle.log_tables.specs.Changes.{applies};
 ghost use Rattle.engine_api.specs.States.{with_change, live_tables};
-ghost use Rattle.engine_api.specs.Live.{live_schema, IsRowFor, IsApart, IsInsertApart, insert_into, wrote_state, is_under, is_taken, HasRoom, live_limit};
+ghost use Rattle.engine_api.specs.Live.{live_schema, IsRowFor, IsApart, IsInsertApart, insert_into, wrote_state, is_under, is_taken, HasRoom, IsLive};
 ghost use Rattle.engine_api.specs.Calls.{AnswersAlone};
 ghost use Rattle.engine_api.specs.declared.fault.EngineFault.TheVariants.{Code as code};
 ghost use Rattle.engine_api.specs.declared.fault.Code.TheVariants.{Duplicate, Full};
-ghost use Rattle.live_tables.specs.Folds.{grows};
 ghost use Rattle.live_tables.specs.Live.{most_bytes, Adds};
 
 use crate::LiveTables;
 use crate::bytes::change_len;
 use crate::copies::copy_row;
+use crate::gone::is_within;
 use crate::pending::add_change;
 use crate::tables::make_some;
 use engine_api::{Code, EngineFault};
@@ -23,13 +23,6 @@ use std::alloc::AllocError;
 
 /// How many bytes the live tables of an engine may have.
 pub const LIVE_LIMIT: u64 = 16_777_216;
-
-// Whether so many bytes are within the limit.
-fn is_within(committed: u64, opened: u64, more: u64) -> bool
-    ensures { result ≡ nat_le (committed + opened + more) live_limit }
-{
-    committed.saturating_add(opened).saturating_add(more) <= LIVE_LIMIT
-}
 
 // How many bytes are counted at most.
 const MOST_BYTES: u64 = 9_223_372_036_854_775_808;
@@ -59,10 +52,49 @@ impl LiveTables {
         self.waits -= added;
     }
 
-    // Adds a change that applies to what a transaction has pending.
+    // Adds a change that applies to what a transaction has pending, whatever the live bytes are then.
+    fn push(&mut self, txn: u32, change: Change) -> Result<(), AllocError>
+        requires applies { applies change (live_tables self.old.state) ≡ true }
+        requires unprepared { is_under txn self.old.state ≡ false }
+        requires apart { IsApart txn change self.old.state }
+        ensures ok { OnOk result (self.new.state ≡ with_change txn change self.old.state) }
+        ensures none { OnErr result (self.new.state ≡ self.old.state) }
+    {
+        let more = change_len(&change);
+        if !is_countable(self.committed, self.opened, self.waits, more) {
+            return Err(AllocError);
+        }
+        self.done.reserve(self.waiting + 1)?;
+        add_change(&mut self.pending, self.alloc, txn, change)?;
+        self.opened += more;
+        self.waiting += 1;
+        Ok(())
+    }
+
+    // Whether the live bytes are within their limit with a change more: else 135. What is done must be in the tables.
+    fn has_room(&self, txn: u32, change: &Change) -> Result<(), EngineFault>
+        requires applies { applies change.now (live_tables self.now.state) ≡ true }
+        requires unprepared { is_under txn self.now.state ≡ false }
+        requires apart { IsApart txn change.now self.now.state }
+        ensures full { result ≡ Err (code Full)
+            → HasRoom (with_change txn change.now self.now.state) → ⊥ }
+        ensures not_full { OnOk result (HasRoom (with_change txn change.now self.now.state)) }
+        ensures answers { AnswersAlone (Full ∷ []) result }
+    {
+        let more = change_len(change);
+        if !self.done.is_empty() || !is_countable(self.committed, self.opened, self.waits, more) {
+            return Err(EngineFault::Memory);
+        }
+        let counted = self.committed + self.opened + more;
+        if !is_within(&self.tables, &self.pending, change, counted) {
+            return Err(EngineFault::Code(Code::Full));
+        }
+        Ok(())
+    }
+
+    // Adds a change that applies to what a transaction has pending, where the live bytes are within their limit then.
     fn add(&mut self, txn: u32, change: Change) -> Result<(), EngineFault>
         requires applies { applies change (live_tables self.old.state) ≡ true }
-        requires grows { grows change ≡ true }
         requires unprepared { is_under txn self.old.state ≡ false }
         requires apart { IsApart txn change self.old.state }
         ensures adds { Adds result (with_change txn change self.old.state)
@@ -70,20 +102,8 @@ impl LiveTables {
         ensures answers { AnswersAlone (Full ∷ []) result }
     {
         self.settle();
-        if !self.done.is_empty() {
-            return Err(EngineFault::Memory);
-        }
-        let more = change_len(&change);
-        if !is_within(self.committed, self.opened, more) {
-            return Err(EngineFault::Code(Code::Full));
-        }
-        if !is_countable(self.committed, self.opened, self.waits, more) {
-            return Err(EngineFault::Memory);
-        }
-        self.done.reserve(self.waiting + 1)?;
-        add_change(&mut self.pending, self.alloc, txn, change)?;
-        self.opened += more;
-        self.waiting += 1;
+        self.has_room(txn, &change)?;
+        self.push(txn, change)?;
         Ok(())
     }
 
@@ -111,6 +131,25 @@ impl LiveTables {
             schema: schema.copy(self.alloc)?,
         };
         self.add(txn, change)
+    }
+
+    /// Drops a table.
+    ///
+    /// `Memory`.
+    pub fn drop_table(&mut self, txn: u32, table: &Name) -> Result<(), EngineFault>
+        requires live { IsLive table.now self.old.state }
+        requires unprepared { is_under txn self.old.state ≡ false }
+        requires apart { IsApart txn (Drop table.now) self.old.state }
+        ensures ok { OnOk result
+            (self.new.state ≡ with_change txn (Drop table.now) self.old.state) }
+        ensures none { OnErr result (self.new.state ≡ self.old.state) }
+        ensures answers { AnswersAlone [] result }
+    {
+        let name = table.copy()?;
+        let dropped = Change::Drop { table: name };
+        self.settle();
+        self.push(txn, dropped)?;
+        Ok(())
     }
 
     // The name and the schema of a live table, for a change on it.

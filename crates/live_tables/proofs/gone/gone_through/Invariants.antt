@@ -1,0 +1,15 @@
+use Rattle.std.proofs.Common.{length, ◌-◌, ◌≡◌, ◌≤◌, take}
+use Rattle.log_tables.specs.Changes.{after_changes}
+use Rattle.engine_api.specs.States.{changes_in}
+use Rattle.live_tables.specs.Bytes.{capped}
+use Rattle.live_tables.specs.Gone.{gone}
+use Rattle.live_tables.proofs.gone.gone_through.Given as goal
+
+abbrev pub invariant-loop-i : goal.invariant-loop-i
+invariant-loop-i l = record {
+  within : l.i ≤ length l.changes;
+  so_far : l.sum ≡ capped (gone (take l.i l.changes) (after_changes (changes_in l.pending) l.tables));
+}
+
+abbrev pub decreases-loop-i : goal.decreases-loop-i
+decreases-loop-i l = length l.changes - l.i
