@@ -81,7 +81,7 @@ pub fits_named : (n : List ℕ) (c : Change) (ts : List Table) → applies c ts 
 fits_named n c ts fit own = sym (applies_found n c ts own) ∙ fit
 
 -- sums over the rows of what was found, after a row change that applies
-edit_sum : (f : List Value → ℕ) (c : Change) (e : IsEdit c) (o : Option Table) → takes c o ≡ true → IsInOrder o
+pub edit_sum : (f : List Value → ℕ) (c : Change) (e : IsEdit c) (o : Option Table) → takes c o ≡ true → IsInOrder o
     → sum_by f (rows_found (rows_changed c o)) + sum_of f e.before ≡ sum_by f (rows_found o) + sum_of f e.after
 edit_sum f c e None fit ordered = absurd (no fit)
 edit_sum f c e (Some t) fit ordered =

@@ -11,6 +11,10 @@ pub mod ApartLemmas
 pub mod OpenLaws
 pub mod SoundLaws
 pub mod StoredLemmas
+pub mod BelowLemmas
+pub mod MovesLemmas
+pub mod TrailLemmas
+pub mod ScanLemmas
 pub mod BytesLemmas
 pub mod SeekLemmas
 pub mod ShrinkLemmas

@@ -1,5 +1,6 @@
 pub mod Stored
 pub mod Folds
+pub mod Places
 pub mod Gone
 pub mod Bytes
 pub mod Opens

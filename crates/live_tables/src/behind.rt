@@ -24,8 +24,8 @@ pub(crate) struct Behind<'a> {
     pub(crate) more: &'a [Change],
 }
 
-// The value of a row in a column, or `null` where it has no such column.
-fn value_at<'a>(row: &'a Row, column: usize, null: &'a Value) -> &'a Value
+/// The value of a row in a column, or `null` where it has no such column.
+pub(crate) fn value_at<'a>(row: &'a Row, column: usize, null: &'a Value) -> &'a Value
     requires { null.now ≡ Null }
     ensures { result.now ≡ key_in column row.now }
 {

@@ -8,6 +8,7 @@
 
 mod back;
 mod behind;
+mod below;
 mod bytes;
 mod copies;
 mod finish;
@@ -16,12 +17,17 @@ mod laws;
 mod left;
 mod live;
 mod load;
+mod moves;
 mod pending;
+mod scan;
+#[cfg(test)]
+mod scan_tests;
 mod seek;
 mod stored;
 mod tables;
 #[cfg(test)]
 mod tests;
+mod trail;
 mod write;
 
 pub use live::LiveTables;

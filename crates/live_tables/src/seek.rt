@@ -108,7 +108,8 @@ pub(crate) fn rows_through(changes: &[Change], name: &Name, count: u64) -> u64
 /// How many rows stand under a name after what is pending, where there were so many before.
 pub(crate) fn rows_by(pending: &[Open], name: &Name, count: u64) -> u64
     requires { count + length (changes_in pending.now) < 2 ^ 64 }
-    ensures { result ≡ through (rows_step name.now) (changes_in pending.now) count }
+    ensures value { result ≡ through (rows_step name.now) (changes_in pending.now) count }
+    ensures within { result ≤ count + length (changes_in pending.now) }
 {
     let mut rows = count;
     let mut i = 0;

@@ -12,6 +12,7 @@ ghost use Rattle.log_tables.specs.Keys.{IsOrdered};
 ghost use Rattle.sql_value.specs.Values.{value_cmp};
 ghost use Rattle.engine_api.specs.Live.{row_at, table_bytes};
 ghost use Rattle.live_tables.specs.Bytes.{capped};
+ghost use Rattle.live_tables.specs.Places.{below};
 ghost use Rattle.live_tables.specs.Stored.{is_key_below, AreParted, Finds, Takes, with_row, moved, StandsAt};
 
 use crate::bytes::{rows_len, schema_len};
@@ -48,6 +49,29 @@ fn key_order(row: &Row, column: usize, key: &Value) -> Ordering
         Some(found) => value_order(found, key),
         None => value_order(&Value::Null, key),
     }
+}
+
+/// Whether the key of a row is below a value.
+pub(crate) fn is_below(row: &Row, column: usize, key: &Value) -> bool
+    ensures { result ≡ is_key_below column key.now row.now }
+{
+    key_order(row, column, key).is_lt()
+}
+
+// How many of the rows have lower keys, in whatever order they are.
+fn count_all_below(rows: &[Row], column: usize, key: &Value) -> usize
+    ensures value { result ≡ below column key.now rows.now }
+    ensures within { result ≤ length rows.now }
+{
+    let mut low = 0;
+    let mut i = 0;
+    while i < rows.len() {
+        if is_below(&rows[i], column, key) {
+            low += 1;
+        }
+        i += 1;
+    }
+    low
 }
 
 // How many of the rows, from the first, have lower keys, where they are in key order.
@@ -291,6 +315,23 @@ impl Stored {
         ensures { option_copied result ≡ slice_get self.now.rows place }
     {
         self.rows.get(place)
+    }
+
+    /// How many of its rows have lower values in a column. Where that is the key column, they are found by binary search.
+    pub(crate) fn below(&self, column: usize, key: &Value) -> usize
+        ensures value { result ≡ below column key.now self.now.rows }
+        ensures small { result < 2 ^ 63 }
+    {
+        match self.definition.schema.key {
+            Some(own) => {
+                if own as usize == column {
+                    count_below(&self.rows, column, key)
+                } else {
+                    count_all_below(&self.rows, column, key)
+                }
+            }
+            None => count_all_below(&self.rows, column, key),
+        }
     }
 
     /// How many bytes it has: its name, its schema and its rows.

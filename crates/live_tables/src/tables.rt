@@ -9,6 +9,7 @@ ghost use Rattle.log_tables.specs.Changes.{after_change, after_changes, applies,
 ghost use Rattle.live_tables.specs.Bytes.{capped};
 ghost use Rattle.live_tables.specs.Folds.{AreMade, row_in, bytes_found, change_bytes, freed};
 ghost use Rattle.live_tables.specs.Live.{most_bytes, CanMake};
+ghost use Rattle.live_tables.specs.Places.{below};
 
 use crate::bytes::{change_len, row_len};
 use crate::stored::Stored;
@@ -61,6 +62,18 @@ pub(crate) fn row_at<'a>(tables: &'a [Stored], name: &Name, place: usize) -> Opt
     match find(tables, name) {
         Some(i) => tables[i].row_at(place),
         None => None,
+    }
+}
+
+/// How many rows of the first table of this name have lower values in a column.
+pub(crate) fn below(tables: &[Stored], name: &Name, column: usize, key: &Value) -> usize
+    ensures value { result
+        ≡ below column key.now (rows_found (table_named name.now tables.now)) }
+    ensures small { result < 2 ^ 63 }
+{
+    match find(tables, name) {
+        Some(i) => tables[i].below(column, key),
+        None => 0,
     }
 }
 

@@ -13,7 +13,7 @@ use std::alloc::{AllocError, Global};
 use std::process::Abort;
 use std::test::Fail;
 
-fn name(rt: &impl Abort, alloc: Global, bytes: &[u8]) -> Result<Name, AllocError> {
+pub(crate) fn name(rt: &impl Abort, alloc: Global, bytes: &[u8]) -> Result<Name, AllocError> {
     match Name::new(bytes.to_vec(alloc)?) {
         Ok(name) => Ok(name),
         Err(_) => rt.abort(),
@@ -21,7 +21,7 @@ fn name(rt: &impl Abort, alloc: Global, bytes: &[u8]) -> Result<Name, AllocError
 }
 
 // k BIGINT, the key, and v VARCHAR(10).
-fn pairs(rt: &impl Abort, alloc: Global) -> Result<Schema, AllocError> {
+pub(crate) fn pairs(rt: &impl Abort, alloc: Global) -> Result<Schema, AllocError> {
     let mut columns = Vec::new(alloc);
     columns.push(Column {
         name: name(rt, alloc, b"k")?,
@@ -39,7 +39,7 @@ fn pairs(rt: &impl Abort, alloc: Global) -> Result<Schema, AllocError> {
     })
 }
 
-fn pair(alloc: Global, key: i64, text: &[u8]) -> Result<Row, AllocError> {
+pub(crate) fn pair(alloc: Global, key: i64, text: &[u8]) -> Result<Row, AllocError> {
     let mut values = Vec::new(alloc);
     values.push(Value::Int(key))?;
     values.push(Value::Text(Text::new(text.to_vec(alloc)?)))?;
@@ -69,7 +69,7 @@ fn is_free(rt: &impl Abort, tables: &LiveTables, table: &Name)
     }
 }
 
-fn create(
+pub(crate) fn create(
     rt: &impl Abort,
     tables: &mut LiveTables,
     engine: &Name,
@@ -86,7 +86,7 @@ fn create(
     }
 }
 
-fn insert(
+pub(crate) fn insert(
     rt: &impl Abort,
     tables: &mut LiveTables,
     table: &Name,
@@ -121,7 +121,12 @@ fn drop_table(rt: &impl Abort, tables: &mut LiveTables, table: &Name)
 }
 
 // Prepares and commits what is pending; between the two the xid must be told.
-fn commit(rt: &impl Abort, tables: &mut LiveTables, xid: u64, number: u64) -> Result<(), AllocError>
+pub(crate) fn commit(
+    rt: &impl Abort,
+    tables: &mut LiveTables,
+    xid: u64,
+    number: u64,
+) -> Result<(), AllocError>
     requires { IsAlone 1 tables.old.state }
     ensures { OnOk result (IsAlone 1 tables.new.state) }
 {
@@ -147,7 +152,7 @@ fn text_at<'a>(
     }
 }
 
-fn is_done(rt: &impl Abort, answer: Result<(), EngineFault>) {
+pub(crate) fn is_done(rt: &impl Abort, answer: Result<(), EngineFault>) {
     assert!(rt; answer == Ok(()));
 }
 
@@ -224,7 +229,7 @@ fn replay(
     Ok(())
 }
 
-fn map(rt: &impl Abort, alloc: Global) -> Result<TableMap, AllocError> {
+pub(crate) fn map(rt: &impl Abort, alloc: Global) -> Result<TableMap, AllocError> {
     Ok(TableMap {
         table: name(rt, alloc, b"t")?,
         schema: pairs(rt, alloc)?,
@@ -241,7 +246,7 @@ fn delete(rt: &impl Abort, alloc: Global, key: i64, text: &[u8]) -> Result<Chang
 }
 
 // The table t, with the rows 1, 2 and 3.
-fn made(rt: &impl Abort, alloc: Global) -> Result<Vec<Change>, AllocError> {
+pub(crate) fn made(rt: &impl Abort, alloc: Global) -> Result<Vec<Change>, AllocError> {
     let mut changes = Vec::new(alloc);
     changes.push(Change::Create {
         table: name(rt, alloc, b"t")?,
@@ -258,7 +263,7 @@ fn made(rt: &impl Abort, alloc: Global) -> Result<Vec<Change>, AllocError> {
 }
 
 // Row 1 becomes row 5, and row 2 goes.
-fn edited(rt: &impl Abort, alloc: Global) -> Result<Vec<Change>, AllocError> {
+pub(crate) fn edited(rt: &impl Abort, alloc: Global) -> Result<Vec<Change>, AllocError> {
     let mut changes = Vec::new(alloc);
     changes.push(Change::Update {
         map: map(rt, alloc)?,

@@ -15,6 +15,6 @@ returns c =
     let step = rows_step n in
     let stored : c.rows-stored.result ≡ length (rows_found (table_named n it.tables.items)) = c.rows-stored.ensures.value ∙ ap (λ ts. length (rows_found (table_named n ts))) c.deref.ensures.value in
     let done = c.rows_through-done.ensures.value ∙ ap (λ l. through step l c.rows-stored.result) c.deref-2.ensures.value ∙ ap (through step it.done.items) stored in
-    c.rows_by.ensures ∙ ap (λ ps. through step (changes_in ps) c.rows_through-done.result) c.deref-3.ensures.value ∙ ap (through step (changes_in it.pending.items)) done
+    c.rows_by.ensures.value ∙ ap (λ ps. through step (changes_in ps) c.rows_through-done.result) c.deref-3.ensures.value ∙ ap (through step (changes_in it.pending.items)) done
     ∙ count_behind n it.done.items (changes_in it.pending.items) it.tables.items sound.made sound.done_fit sound.open_fit
     ∙ ap (λ (l : Live). length (live_rows n l.state)) c.self.view_is
