@@ -4,7 +4,8 @@ ghost use Rattle.std.specs.declared.option.Option.TheVariants.{None};
 
 use row_format::Name;
 
-/// Where a scan of a table stands: before the row at a position, from 0. No call of an engine takes one yet.
+/// Where a scan of a table stands: before the row at a position among its live rows, from 0. `rnd_init` begins it, and `rnd_next` moves
+/// it on. A change of the table leaves the position as it is, and so moves the rows under it.
 #[derive(Drop)]
 pub struct Cursor {
     pub table: Option<Name>,

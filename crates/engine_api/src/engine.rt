@@ -3,25 +3,26 @@
 //! An engine tells five things. `kind` and `reading` never change: what it is, and how the bytes of its files are read. `state` is what
 //! it has (`EngineState`). `holds` says of its files that they are what the engine takes them for; each call asks for it and gives it
 //! back, unless the device failed.
-ghost use Rattle.std.specs.Prelude.{◌≡◌, ◌<◌, ◌≤◌, ◌∷◌, [], ℕ, List, length, map, Bool, true, false, None, Some, IfOk, OnOk, Err, IsTrue, IsErrOf, Contains, All};
+ghost use Rattle.std.specs.Prelude.{◌≡◌, ◌<◌, ◌≤◌, ◌∷◌, [], ℕ, List, length, map, Bool, true, false, None, Some, suc, IfOk, OnOk, OnErr, Err, IsTrue, IsErrOf, Contains, All};
 ghost use Rattle.std.specs.Option.{option_copied};
 ghost use Rattle.disk_model.specs.File.{File, IsSettled};
 ghost use Rattle.disk_model.specs.Disk.{Disk, now, Keeps, HasCause};
 ghost use Rattle.row_format.specs.Schemas.{IsSchema};
-ghost use Rattle.row_format.specs.declared.change.Change.TheVariants.{Create};
+ghost use Rattle.row_format.specs.declared.change.Change.TheVariants.{Create, Drop};
 ghost use Rattle.log_tables.specs.declared.gist.Gist.{Gist};
 ghost use Rattle.log_tables.specs.Gists.{is_prepared};
 ghost use Rattle.engine_api.specs.States.{Kind, EngineState, with_change, begun_state, synced_state};
 ghost use Rattle.engine_api.specs.States.{prepared_state, committed_state, rolled_back_state, resolved_state, dropped_state};
 ghost use Rattle.engine_api.specs.Live.{allows, HasRoom, live_schema, live_rows, live_row, insert_into, wrote_state, is_taken};
 ghost use Rattle.engine_api.specs.Live.{IsApart, IsInsertApart, is_under, IsUnder, IsLeft, IsLive, IsKeyFor, IsRowFor};
+ghost use Rattle.engine_api.specs.Scans.{live_above, IsOnLive, scan_row};
 ghost use Rattle.engine_api.specs.Reads.{Reading, EachReads, EachReadsAs, files_in, bytes_in, OnlyIn};
 ghost use Rattle.engine_api.specs.Calls.{IsDevice, AnswersOnly, AnswersAlone, IsSame, Notes, Turns, IsDoneOrDevice};
 ghost use Rattle.engine_api.specs.declared.fault.Code.{Code};
-ghost use Rattle.engine_api.specs.declared.fault.Code.TheVariants.{KeyNotFound, Duplicate, Full};
+ghost use Rattle.engine_api.specs.declared.fault.Code.TheVariants.{KeyNotFound, Duplicate, Full, EndOfFile};
 ghost use Rattle.engine_api.specs.declared.fault.EngineFault.TheVariants.{Code as code, NotAVolume, Memory};
 
-use crate::{Definition, EngineFault, Flags, Use};
+use crate::{Cursor, Definition, EngineFault, Flags, Use};
 use disk_model::Storage;
 use row_format::{Name, Row, Schema, Text, Value};
 
@@ -128,6 +129,19 @@ pub trait Engine: Drop {
         ensures not_full { OnOk result (HasRoom (state self.new)) }
         ensures answers { AnswersAlone (Full ∷ []) result };
 
+    /// Drops a table.
+    ///
+    /// `Memory`.
+    fn delete_table(&mut self, txn: u32, table: &Name) -> Result<(), EngineFault>
+        requires live { IsLive table.now (state self.old) }
+        requires unprepared { is_under txn (state self.old) ≡ false }
+        requires apart { IsApart txn (Drop table.now) (state self.old) }
+        ensures same { IsSame (kind self.old) (kind self.new)
+            (reading self.old) (reading self.new) }
+        ensures notes { Notes result (with_change txn (Drop table.now) (state self.old))
+            (state self.old) (state self.new) (holds self.old) (holds self.new) }
+        ensures answers { AnswersAlone [] result };
+
     /// A statement begins or ends its use of a table; the engine joins the transaction.
     ///
     /// `Memory`.
@@ -137,6 +151,45 @@ pub trait Engine: Drop {
         ensures notes { Notes result (state self.old)
             (state self.old) (state self.new) (holds self.old) (holds self.new) }
         ensures answers { AnswersAlone [] result };
+
+    /// A scan begins: the cursor stands before the first live row.
+    ///
+    /// `Memory`.
+    fn rnd_init(&mut self, table: &Name, cursor: &mut Cursor) -> Result<(), EngineFault>
+        requires live { IsLive table.now (state self.old) }
+        ensures same { IsSame (kind self.old) (kind self.new)
+            (reading self.old) (reading self.new) }
+        ensures notes { Notes result (state self.old)
+            (state self.old) (state self.new) (holds self.old) (holds self.new) }
+        ensures table { OnOk result (cursor.new.table ≡ Some table.now) }
+        ensures first { OnOk result (cursor.new.position ≡ 0) }
+        ensures stays { OnErr result (cursor.new ≡ cursor.old) }
+        ensures answers { AnswersAlone [] result };
+
+    /// The live row at the cursor's position; the cursor moves on to the next one. A change between two calls moves the rows under it.
+    ///
+    /// 137 exactly at the end. `Device`; `Memory`, also where the cursor cannot count the row.
+    fn rnd_next(
+        &mut self,
+        volume: &mut dyn Storage,
+        cursor: &mut Cursor,
+    ) -> Result<Row, EngineFault>
+        requires begun { IsOnLive cursor.old.table (state self.old) }
+        requires holds { IsTrue (disk volume.old).told
+            → holds self.old (files_in (kind self.old).files (disk volume.old)) }
+        ensures same { IsSame (kind self.old) (kind self.new)
+            (reading self.old) (reading self.new) }
+        ensures turns { Turns (kind self.old) (reading self.old) result (state self.old)
+            (state self.old) (state self.new) (holds self.new) (disk volume.old) (disk volume.new) }
+        ensures row { IfOk result
+            (λ row. scan_row cursor.old.table cursor.old.position (state self.old) ≡ Some row) }
+        ensures table { cursor.new.table ≡ cursor.old.table }
+        ensures moved { OnOk result (cursor.new.position ≡ suc cursor.old.position) }
+        ensures stays { OnErr result (cursor.new.position ≡ cursor.old.position) }
+        ensures end { result ≡ Err (code EndOfFile)
+            → scan_row cursor.old.table cursor.old.position (state self.old) ≡ None }
+        ensures answers { AnswersOnly (EndOfFile ∷ []) (kind self.old).files
+            (disk volume.old).told result };
 
     /// The live row with this key.
     ///
@@ -159,6 +212,29 @@ pub trait Engine: Drop {
         ensures absent { result ≡ Err (code KeyNotFound)
             → live_row table.now key.now (state self.old) ≡ None }
         ensures answers { AnswersOnly (KeyNotFound ∷ []) (kind self.old).files
+            (disk volume.old).told result };
+
+    /// The live row of the least key above this one.
+    ///
+    /// 137 exactly where there is none. `Device`; `Memory`.
+    fn index_next(
+        &mut self,
+        volume: &mut dyn Storage,
+        table: &Name,
+        after: &Value,
+    ) -> Result<Row, EngineFault>
+        requires key { IsKeyFor (live_schema table.now (state self.old)) after.now }
+        requires holds { IsTrue (disk volume.old).told
+            → holds self.old (files_in (kind self.old).files (disk volume.old)) }
+        ensures same { IsSame (kind self.old) (kind self.new)
+            (reading self.old) (reading self.new) }
+        ensures turns { Turns (kind self.old) (reading self.old) result (state self.old)
+            (state self.old) (state self.new) (holds self.new) (disk volume.old) (disk volume.new) }
+        ensures found { IfOk result
+            (λ row. live_above table.now after.now (state self.old) ≡ Some row) }
+        ensures end { result ≡ Err (code EndOfFile)
+            → live_above table.now after.now (state self.old) ≡ None }
+        ensures answers { AnswersOnly (EndOfFile ∷ []) (kind self.old).files
             (disk volume.old).told result };
 
     /// Adds a row.

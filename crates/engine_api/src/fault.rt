@@ -14,7 +14,7 @@ pub enum Code {
     Duplicate,
     /// 135: the engine's live bytes, or its journal, would pass their limit.
     Full,
-    /// 137: there is no row behind the last one.
+    /// 137: no row stands at the cursor's position, or none has a greater key.
     EndOfFile,
 }
 

@@ -1,5 +1,6 @@
 -- What the calls without a device leave.
-use Rattle.std.proofs.Common.{◌≡◌, ℕ, Option, Some, None, List, [], ◌∷◌, Result, Ok, Err, Bool, refl, sym, ap, subst, ◌∙◌}
+use Rattle.std.proofs.Common.{◌≡◌, ℕ, Option, Some, None, List, [], ◌∷◌, Result, Ok, Err, OnOk, Bool, refl, sym, ap, subst, ◌∙◌}
+use Rattle.std.specs.Prelude.{OnErr}
 use Rattle.sql_value.specs.declared.value.Value.{Value}
 use Rattle.row_format.specs.declared.schema.Schema.{Schema}
 use Rattle.log_tables.specs.declared.gist.Gist.{Gist}
@@ -30,6 +31,11 @@ well_next first journal old next gist kept spelt well = record {
 pub well_added : (first : ℕ) (journal : Option Journal) (old next new : EngineState) (result : Result (Unit {0}) EngineFault) → Adds result next old new → IsWell first journal old → IsWell first journal next → IsWell first journal new
 well_added first journal old next new (Ok v) adds well added = subst (λ (s : EngineState). IsWell first journal s) (sym adds.ok) added
 well_added first journal old next new (Err f) adds well added = subst (λ (s : EngineState). IsWell first journal s) (sym adds.none) well
+
+pub well_either : (first : ℕ) (journal : Option Journal) (old next new : EngineState) (result : Result (Unit {0}) EngineFault) → OnOk result (new ≡ next) → OnErr result (new ≡ old)
+    → IsWell first journal old → IsWell first journal next → IsWell first journal new
+well_either first journal old next new (Ok v) ok none well added = subst (λ (s : EngineState). IsWell first journal s) (sym ok) added
+well_either first journal old next new (Err f) ok none well added = subst (λ (s : EngineState). IsWell first journal s) (sym none) well
 
 -- a row written leaves the gist, and as which gists an image reads
 insert_gist : (txn : ℕ) (name : List ℕ) (row : List Value) (o : Option Schema) (state : EngineState) → (with_insert txn (insert_into name o row) state).gist ≡ state.gist

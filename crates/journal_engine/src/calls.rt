@@ -8,7 +8,7 @@ use crate::replay::replay;
 use crate::room::is_past;
 use crate::write::{flush, put};
 use disk_model::Storage;
-use engine_api::{Code, Definition, Engine, EngineFault, Flags, KeyRule, Prepared, Use};
+use engine_api::{Code, Cursor, Definition, Engine, EngineFault, Flags, KeyRule, Prepared, Use};
 use redo_journal::{Journal, JournalFault, Record};
 use row_format::{Changes, Name, Row, Schema, Text, Value};
 
@@ -74,8 +74,41 @@ impl Engine for JournalEngine {
         self.live.create(txn, &self.name, table, schema)
     }
 
+    fn delete_table(&mut self, txn: u32, table: &Name) -> Result<(), EngineFault> {
+        named(table);
+        self.live.drop_table(txn, table)
+    }
+
     fn external_lock(&mut self, txn: u32, table: &Name, wanted: Use) -> Result<(), EngineFault> {
         Ok(())
+    }
+
+    fn rnd_init(&mut self, table: &Name, cursor: &mut Cursor) -> Result<(), EngineFault> {
+        let table = table.copy()?;
+        *cursor = Cursor {
+            table: Some(table),
+            position: 0,
+        };
+        Ok(())
+    }
+
+    fn rnd_next(
+        &mut self,
+        volume: &mut dyn Storage,
+        cursor: &mut Cursor,
+    ) -> Result<Row, EngineFault> {
+        let Some(table) = &cursor.table else {
+            unreachable!();
+        };
+        let Some(row) = self.live.row_at(table, cursor.position) else {
+            return Err(EngineFault::Code(Code::EndOfFile));
+        };
+        if cursor.position == u32::MAX {
+            return Err(EngineFault::Memory);
+        }
+        let row = copy_row(self.alloc, row)?;
+        cursor.position += 1;
+        Ok(row)
     }
 
     fn index_read(
@@ -86,6 +119,18 @@ impl Engine for JournalEngine {
     ) -> Result<Row, EngineFault> {
         let Some(row) = self.live.row(table, key) else {
             return Err(EngineFault::Code(Code::KeyNotFound));
+        };
+        Ok(copy_row(self.alloc, row)?)
+    }
+
+    fn index_next(
+        &mut self,
+        volume: &mut dyn Storage,
+        table: &Name,
+        after: &Value,
+    ) -> Result<Row, EngineFault> {
+        let Some(row) = self.live.row_above(table, after)? else {
+            return Err(EngineFault::Code(Code::EndOfFile));
         };
         Ok(copy_row(self.alloc, row)?)
     }

@@ -189,8 +189,13 @@ fn has_number_key(rt: &impl Abort, schema: &Schema, key: &Value)
     }
 }
 
-// The value must be one for the key of the live table.
-fn can_be_key(rt: &impl Abort, engine: &Box<dyn Engine + Send>, table: &Name, key: &Value)
+/// The value must be one for the key of the live table.
+pub(crate) fn can_be_key(
+    rt: &impl Abort,
+    engine: &Box<dyn Engine + Send>,
+    table: &Name,
+    key: &Value,
+)
     ensures { IsKeyFor (live_schema table.now (state engine.now)) key.now }
 {
     let Some(schema) = engine.live(table) else {

@@ -16,6 +16,8 @@ mod fixture;
 mod replay;
 mod room;
 #[cfg(test)]
+mod scan_tests;
+#[cfg(test)]
 mod tests;
 mod write;
 

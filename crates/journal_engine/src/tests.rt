@@ -39,8 +39,8 @@ fn an_engine_tells_what_it_is(rt: HostRuntime) -> Result<(), Fail> {
     Ok(())
 }
 
-// Begins on empty files, and makes the table t with a row by a transaction that is committed as number 1.
-fn with_a_row(
+/// Begins on empty files, and makes the table t with a row by a transaction that is committed as number 1.
+pub(crate) fn with_a_row(
     rt: &impl Abort,
     alloc: Global,
     engine: &mut Box<dyn Engine + Send>,
