@@ -59,7 +59,7 @@ fn add(table: &mut RowTable, alloc: Global, key: i64) -> Result<(), AllocError> 
     if table.spare() == 0 {
         table.reserve(1_024)?;
     }
-    if table.len() < ROWS as usize && table.insert(Row::new(values)).is_ok() {
+    if table.insert(Row::new(values)).is_ok() {
         return Ok(());
     }
     Err(AllocError)

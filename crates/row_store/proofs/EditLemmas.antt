@@ -1,6 +1,6 @@
 -- The order of the slots, and the rows in this order, after one comes or goes.
 use Rattle.std.proofs.Common.{◌≡◌, ◌≢◌, ℕ, zero, suc, ◌<◌, ◌≤◌, List, [], ◌∷◌, ◌++◌, length, map, get_or, take, drop, Option, Some, None, IsTrue, refl, sym, ◌∙◌, ap, subst, arith}
-use Rattle.std.specs.Prelude.{is_some, set, insert, remove, slice_get, unwrap_or}
+use Rattle.std.specs.Prelude.{is_some, insert, remove, slice_get, unwrap_or}
 use Rattle.std.proofs.lemmas.List.{map-append, take-map, drop-map}
 use Rattle.std.proofs.lemmas.Option.{slice_get-get_or, slice_get_past}
 use Rattle.sql_value.specs.declared.value.Value.{Value}
@@ -81,15 +81,6 @@ rows_insert old new s order i row only apart here =
 -- a row that went
 pub rows_remove : (old new : Slots) (order : List ℕ) (i d : ℕ) → AreApart order → i < length order → OnlyAt (get_or order i d) old new → rows_in new (remove order i) ≡ remove (rows_in old order) i
 rows_remove old new order i d apart lt only = rows_same old new (get_or order i d) (remove order i) only (from_removed order i d apart lt) ∙ map_remove (row_in old) order i
-
--- a row that gave way to another
-pub rows_set : (old new : Slots) (order : List ℕ) (i d : ℕ) (row : List Value) → AreApart order → i < length order → OnlyAt (get_or order i d) old new → at new (get_or order i d) ≡ Some row → rows_in new order ≡ set (rows_in old order) i row
-rows_set old new [] i d row apart lt only here = absurd (omega (arith, lt))
-rows_set old new (it ∷ rest) zero d row apart lt only here =
-    ap (λ (o : Option (List Value)). unwrap_or o [] ∷ rows_in new rest) here ∙ ap (λ (l : List (List Value)). row ∷ l) (rows_same old new it rest only apart.0)
-rows_set old new (it ∷ rest) (suc i) d row apart lt only here =
-    ap (λ (o : Option (List Value)). unwrap_or o [] ∷ rows_in new rest) (only it (from_at it rest i d apart.0 (omega (arith, lt))))
-    ∙ ap (λ (l : List (List Value)). row_in old it ∷ l) (rows_set old new rest i d row apart.1 (omega (arith, lt)) only here)
 
 some_row : (o : Option (List Value)) → IsTrue (is_some o) → o ≡ Some (unwrap_or o [])
 some_row None some = absurd (let e = some in cc)

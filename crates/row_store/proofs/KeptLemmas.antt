@@ -1,31 +1,25 @@
 -- What is kept of a table of rows while one comes, goes, or gives way to another.
-use Rattle.std.proofs.Common.{◌≡◌, ◌≢◌, ◌⊎◌, inl, inr, ⊎_elim, ℕ, zero, suc, ◌+◌, ◌-◌, ◌<◌, ◌≤◌, List, [], ◌∷◌, length, get_or, Option, Some, None, true, Result, Ok, IsTrue, refl, sym, ◌∙◌, ap, subst, arith}
+use Rattle.std.proofs.Common.{◌≡◌, ◌⊎◌, ⊎_elim, ℕ, ◌+◌, ◌-◌, ◌<◌, ◌≤◌, List, length, get_or, Option, Some, None, true, Result, Ok, IsTrue, refl, sym, ◌∙◌, ap, subst, arith}
 use Rattle.std.specs.Prelude.{is_some, insert, remove, slice_get}
 use Rattle.std.proofs.lemmas.Option.{get_or_from_slice_get}
 use Rattle.std.proofs.lemmas.List.Edits.{length-insert, length-remove}
 use Rattle.sql_value.specs.declared.value.Value.{Value}
 use Rattle.log_tables.specs.Keys.{inserted, IsOrdered}
 use Rattle.log_tables.proofs.OrderLemmas.{IsOrdered-inserted}
-use Rattle.row_store.specs.Slots.{at, row_in, rows_in, AreTaken, AreKept, OnlyAt, Fills, Frees, Swaps}
+use Rattle.row_store.specs.Slots.{at, row_in, rows_in, AreKept, Fills, Frees, Swaps}
 use Rattle.row_store.specs.Rows.{Held, replaced, Takes, Inserts, Replaces}
 use Rattle.row_store.specs.Turns.{Turns}
 use Rattle.row_store.proofs.KeyLemmas.{Slots, in_order_without, rows_length}
 use Rattle.row_store.proofs.SlotLemmas.{apart_taken, stay_taken, stay_vacant, apart_vacant}
-use Rattle.row_store.proofs.EditLemmas.{apart_insert, taken_insert, apart_remove, taken_remove, from_removed, taken_at, rows_insert, rows_remove, rows_set, map_remove, row_at_place}
+use Rattle.row_store.proofs.EditLemmas.{apart_insert, taken_insert, apart_remove, taken_remove, from_removed, taken_at, rows_insert, rows_remove, map_remove, row_at_place}
 
 is_there : (slots : Slots) (s : ℕ) (row : List Value) → at slots s ≡ Some row → IsTrue (is_some (at slots s))
 is_there slots s row is = subst (λ (o : Option (List Value)). IsTrue (is_some o)) (sym is) refl
 
-same_or_other : (a b : ℕ) → (a ≡ b) ⊎ (a ≢ b)
-same_or_other zero zero = inl refl
-same_or_other zero (suc b) = inr (λ e. cc)
-same_or_other (suc a) zero = inr (λ e. cc)
-same_or_other (suc a) (suc b) = ⊎_elim (λ same. inl (ap suc same)) (λ differs. inr (λ e. differs (omega (arith, e)))) (same_or_other a b)
-
 -- a row came
-pub kept_fill : (old new : Slots) (order free left : List ℕ) (spare a b d a₂ b₂ d₂ slot i : ℕ) (row : List Value) → AreKept old order free spare a b d → 0 < spare → length order < 4294967295 → Fills old free row slot new left → i ≤ length order
+pub kept_fill : (old new : Slots) (order free left : List ℕ) (spare a b d a₂ b₂ d₂ slot i : ℕ) (row : List Value) → AreKept old order free spare a b d → 0 < spare → Fills old free row slot new left → i ≤ length order
     → a ≤ a₂ → b ≤ b₂ → d ≤ d₂ → AreKept new (insert order i slot) left (spare - 1) a₂ b₂ d₂
-kept_fill old new order free left spare a b d a₂ b₂ d₂ slot i row k some few f within more more₂ more₃ =
+kept_fill old new order free left spare a b d a₂ b₂ d₂ slot i row k some f within more more₂ more₃ =
     let from = apart_taken old slot order k.taken f.vacant in
     let len = length-insert order i slot within in
     let counts = k.counts in
@@ -36,7 +30,7 @@ kept_fill old new order free left spare a b d a₂ b₂ d₂ slot i row k some f
       free_is = f.free_is;
       counts = omega (arith, len, counts, more_counts);
       within = ⊎_elim (λ same. let low = k.within in omega (arith, same, low, len, some)) (λ none. omega (arith, none, counts, more_counts, len)) f.grows;
-      few = omega (arith, few, len);
+      few = let few = k.few in omega (arith, few, len, some);
       slots_room = let room = k.slots_room in omega (arith, room, len, some, more);
       order_room = let room = k.order_room in omega (arith, room, len, some, more₂);
       free_room = let room = k.free_room in omega (arith, room, len, some, more₃);
@@ -77,34 +71,13 @@ pub ordered_without : (key : Option ℕ) (rows new : List (List Value)) (i : ℕ
 ordered_without None rows new i is lt ordered = tt
 ordered_without (Some column) rows new i is lt ordered = subst (IsOrdered (Some column)) (sym is) (in_order_without column rows i ordered lt)
 
--- the slots in order have rows, one of them another one
-taken_set : (old new : Slots) (order : List ℕ) (slot : ℕ) (row : List Value) → OnlyAt slot old new → at new slot ≡ Some row → AreTaken old order → AreTaken new order
-taken_set old new [] slot row only here taken = tt
-taken_set old new (it ∷ rest) slot row only here taken = (one it (same_or_other it slot) taken.0, taken_set old new rest slot row only here taken.1)
-  where
-    one : (s : ℕ) → (s ≡ slot) ⊎ (s ≢ slot) → IsTrue (is_some (at old s)) → IsTrue (is_some (at new s))
-    one s (inl same) some = subst (λ (n : ℕ). IsTrue (is_some (at new n))) (sym same) (is_there new slot row here)
-    one s (inr differs) some = subst (λ (o : Option (List Value)). IsTrue (is_some o)) (sym (only s differs)) some
-
 removed_rows : (slots : Slots) (order : List ℕ) (i : ℕ) → rows_in slots (remove order i) ≡ remove (rows_in slots order) i
 removed_rows slots order i = map_remove (row_in slots) order i
 
 -- a row gave way to another
 pub kept_swap : (key : Option ℕ) (old new : Slots) (order order₂ free : List ℕ) (spare a b d a₂ b₂ i : ℕ) (row before : List Value) → AreKept old order free spare a b d → i < length order → Turns key old i row order order₂ true
     → Swaps old (get_or order i 0) row before new → a ≤ a₂ → b ≤ b₂ → AreKept new order₂ free spare a₂ b₂ d
-kept_swap None old new order order₂ free spare a b d a₂ b₂ i row before k lt t s up up₂ =
-    subst (λ (l : List ℕ). AreKept new l free spare a₂ b₂ d) (sym t.0) (record {
-      taken = taken_set old new order (get_or order i 0) row s.others s.here k.taken;
-      apart = k.apart;
-      free_is = record { vacant = stay_vacant old new (get_or order i 0) free s.others (apart_vacant old (get_or order i 0) free k.free_is.vacant (taken_at old order i 0 k.taken lt)) (let same = s.same in omega (arith, same)) k.free_is.vacant; apart = k.free_is.apart };
-      counts = k.counts ∙ sym s.same;
-      within = let low = k.within in let same = s.same in omega (arith, low, same);
-      few = k.few;
-      slots_room = let room = k.slots_room in omega (arith, room, up);
-      order_room = let room = k.order_room in omega (arith, room, up₂);
-      free_room = k.free_room;
-    })
-kept_swap (Some column) old new order order₂ free spare a b d a₂ b₂ i row before k lt t s up up₂ =
+kept_swap key old new order order₂ free spare a b d a₂ b₂ i row before k lt t s up up₂ =
     let slot = get_or order i 0 in
     let from = from_removed order i 0 k.apart lt in
     let j = t.0 in
@@ -125,9 +98,7 @@ kept_swap (Some column) old new order order₂ free spare a b d a₂ b₂ i row 
 -- and the rows then
 pub rows_swap : (key : Option ℕ) (old new : Slots) (order order₂ free : List ℕ) (spare a b d i : ℕ) (row before : List Value) → AreKept old order free spare a b d → i < length order → Turns key old i row order order₂ true
     → Swaps old (get_or order i 0) row before new → replaced key i row (rows_in old order) ≡ Some (rows_in new order₂)
-rows_swap None old new order order₂ free spare a b d i row before k lt t s =
-    ap (λ (l : List (List Value)). Some l) (sym (ap (rows_in new) t.0 ∙ rows_set old new order i 0 row k.apart lt s.others s.here))
-rows_swap (Some column) old new order order₂ free spare a b d i row before k lt t s =
+rows_swap key old new order order₂ free spare a b d i row before k lt t s =
     let slot = get_or order i 0 in
     let from = from_removed order i 0 k.apart lt in
     t.3 ∙ ap (λ (l : List (List Value)). Some l) (sym (ap (rows_in new) t.2 ∙ rows_insert old new slot (remove order i) t.0 row s.others from s.here
@@ -171,15 +142,15 @@ pub record Came (key : Option ℕ) (old new : Slots) (order order₂ left : List
   pub within : i ≤ length (rows_in old order)
   pub less : (spare - 1) + 1 ≡ spare
 
-pub came : (key : Option ℕ) (old new : Slots) (order order₂ free left : List ℕ) (spare a b d a₂ b₂ d₂ slot i : ℕ) (row : List Value) (seen : Slots) → AreKept old order free spare a b d → 0 < spare → length (rows_in old order) < 4294967295
+pub came : (key : Option ℕ) (old new : Slots) (order order₂ free left : List ℕ) (spare a b d a₂ b₂ d₂ slot i : ℕ) (row : List Value) (seen : Slots) → AreKept old order free spare a b d → 0 < spare
     → Fills old free row slot new left → seen ≡ old → i ≤ length order → (IsOrdered key (rows_in seen order) → Takes key row (rows_in seen order) (Some i)) → order₂ ≡ insert order i slot → a ≤ a₂ → b ≤ b₂ → d ≤ d₂
     → IsOrdered key (rows_in old order) → Came key old new order order₂ left spare a₂ b₂ d₂ i row
-came key old new order order₂ free left spare a b d a₂ b₂ d₂ slot i row seen k some few f same within takes is up up₂ up₃ ordered =
+came key old new order order₂ free left spare a b d a₂ b₂ d₂ slot i row seen k some f same within takes is up up₂ up₃ ordered =
     let size = rows_length old order in
     let fits = subst (λ (s : Slots). IsOrdered key (rows_in s order) → Takes key row (rows_in s order) (Some i)) same takes ordered in
     let rows : rows_in new order₂ ≡ insert (rows_in old order) i row = ap (rows_in new) is ∙ rows_fill old new order free left spare a b d slot i row k f in
     record {
-      kept = subst (λ (l : List ℕ). AreKept new l left (spare - 1) a₂ b₂ d₂) (sym is) (kept_fill old new order free left spare a b d a₂ b₂ d₂ slot i row k some (omega (arith, few, size)) f within up up₂ up₃);
+      kept = subst (λ (l : List ℕ). AreKept new l left (spare - 1) a₂ b₂ d₂) (sym is) (kept_fill old new order free left spare a b d a₂ b₂ d₂ slot i row k some f within up up₂ up₃);
       ordered = placed key row (rows_in old order) i (rows_in new order₂) rows fits ordered;
       takes = fits;
       rows = rows;
@@ -240,12 +211,12 @@ taken_there old order free spare a b d i slot k within there =
     subst (λ (s : ℕ). IsTrue (is_some (at old s))) (get_or_from_slice_get order i slot 0 there) (taken_at old order i 0 k.taken lt)
 
 -- a row that came at a place, where there is no key
-pub came_at : (key : Option ℕ) (old new : Slots) (order order₂ free left : List ℕ) (spare a b d a₂ b₂ d₂ slot i : ℕ) (row : List Value) → AreKept old order free spare a b d → key ≡ None → 0 < spare → length (rows_in old order) < 4294967295
+pub came_at : (key : Option ℕ) (old new : Slots) (order order₂ free left : List ℕ) (spare a b d a₂ b₂ d₂ slot i : ℕ) (row : List Value) → AreKept old order free spare a b d → key ≡ None → 0 < spare
     → Fills old free row slot new left → i ≤ length (rows_in old order) → order₂ ≡ insert order i slot → a ≤ a₂ → b ≤ b₂ → d ≤ d₂ → IsOrdered key (rows_in old order)
     → AreKept new order₂ left (spare - 1) a₂ b₂ d₂ × IsOrdered key (rows_in new order₂) × (rows_in new order₂ ≡ insert (rows_in old order) i row)
-came_at key old new order order₂ free left spare a b d a₂ b₂ d₂ slot i row k keyless some few f within is up up₂ up₃ ordered =
+came_at key old new order order₂ free left spare a b d a₂ b₂ d₂ slot i row k keyless some f within is up up₂ up₃ ordered =
     let size = rows_length old order in (
-      subst (λ (l : List ℕ). AreKept new l left (spare - 1) a₂ b₂ d₂) (sym is) (kept_fill old new order free left spare a b d a₂ b₂ d₂ slot i row k some (omega (arith, few, size)) f (omega (arith, within, size)) up up₂ up₃),
+      subst (λ (l : List ℕ). AreKept new l left (spare - 1) a₂ b₂ d₂) (sym is) (kept_fill old new order free left spare a b d a₂ b₂ d₂ slot i row k some f (omega (arith, within, size)) up up₂ up₃),
       placed_keyless key (rows_in old order) (rows_in new order₂) keyless ordered,
       ap (rows_in new) is ∙ rows_fill old new order free left spare a b d slot i row k f,
     )

@@ -1,24 +1,23 @@
 -- Rows found by binary search, and where a row goes among rows in key order.
 use Rattle.std.proofs.Common.{◌≡◌, ◌≢◌, ◌⊎◌, inl, inr, Bool, ℕ, ◌+◌, ◌<◌, ◌≤◌, zero, suc, List, [], ◌∷◌, length, get_or, Option, Some, None, true, false, refl, sym, ap, ◌∙◌, arith, subst}
-use Rattle.std.specs.Prelude.{is_some, nat_eq, slice_get}
+use Rattle.std.specs.Prelude.{nat_eq, slice_get}
 use Rattle.std.specs.List.{insert, remove, AllWithin}
 use Rattle.std.specs.List.Sorted.{IsPartitionedBy}
-use Rattle.std.specs.Ordering.{is_lt, is_eq, ordering_reverse, ordering_index}
+use Rattle.std.specs.Ordering.{is_lt, ordering_reverse, ordering_index}
 use Rattle.std.specs.declared.cmp.Ordering.{Ordering}
 use Rattle.std.specs.declared.cmp.Ordering.TheVariants.{Less, Equal, Greater}
-use Rattle.std.proofs.lemmas.Bool.{cases_order, cond-true, cond-false}
+use Rattle.std.proofs.lemmas.Bool.{cases_order}
 use Rattle.std.proofs.lemmas.List.{get_or-map, get_or_default}
 use Rattle.std.proofs.lemmas.List.Edits.{insert_end}
-use Rattle.std.proofs.lemmas.Option.{slice_get-get_or}
 use Rattle.sql_value.specs.declared.value.Value.{Value}
 use Rattle.sql_value.specs.Values.{value_cmp}
 use Rattle.sql_value.proofs.OrderLemmas.{value_cmp_total}
-use Rattle.sql_value.proofs.SameLemmas.{less, less-other, same_value-is_eq, same_value_refl}
-use Rattle.log_tables.specs.Keys.{key_in, has_key, row_with, IsInKeyOrder, IsPlaceFor, IsOrdered}
+use Rattle.sql_value.proofs.SameLemmas.{less, same_value_refl}
+use Rattle.log_tables.specs.Keys.{key_in, IsInKeyOrder, IsPlaceFor}
 use Rattle.log_tables.proofs.OrderLemmas.{IsInKeyOrder-without_key}
-use Rattle.log_tables.proofs.PlaceLemmas.{rises, place_from, place-free, taken_at, inserted-place, inserted-taken, without_key-at}
+use Rattle.log_tables.proofs.PlaceLemmas.{rises, place_from, without_key-at}
 use Rattle.row_store.specs.Slots.{row_in, rows_in}
-use Rattle.row_store.specs.Rows.{is_key_below, AreParted, Finds, Takes, IsAtKey}
+use Rattle.row_store.specs.Rows.{is_key_below, AreParted, Takes}
 
 -- The rows with lower keys stand before the others.
 pub rows_partitioned : (column : ℕ) (key : Value) (rows : List (List Value)) → IsInKeyOrder column rows → IsPartitionedBy (is_key_below column key) rows
@@ -47,12 +46,6 @@ place_found column key rows place point within other =
     value_cmp_total.antisymm key (key_in column (get_or rows place []))
     ∙ greater (value_cmp (key_in column (get_or rows place [])) key) (point.1 place [] (omega arith) (omega arith)) (other (omega arith)))
 
--- Where a row has this key, it is taken.
-pub key_found : (column : ℕ) (key : Value) (rows : List (List Value)) (place : ℕ) → place < length rows
-    → value_cmp (key_in column (get_or rows place [])) key ≡ Equal → is_some (row_with column key rows) ≡ true
-key_found column key rows place within same =
-    taken_at column key rows place [] within (same_value-is_eq (key_in column (get_or rows place [])) key ∙ ap is_eq same)
-
 pub is_equal : (o : Ordering) → nat_eq (ordering_index o) 1 ≡ true → o ≡ Equal
 is_equal Less h = cc
 is_equal Equal h = refl
@@ -62,33 +55,6 @@ pub is_other : (o : Ordering) → nat_eq (ordering_index o) 1 ≡ false → o �
 is_other Less h = λ e. cc
 is_other Equal h = cc
 is_other Greater h = λ e. cc
-
--- Where a row goes in key order is where it goes.
-pub place_taken : (row : List Value) (rows : List (List Value)) (column : ℕ) (place : Option ℕ) → IsInKeyOrder column rows → Finds column (key_in column row) rows place
-    → Takes (Some column) row rows place
-place_taken row rows column (Some i) ordered found = inserted-place column row rows i ordered found
-place_taken row rows column None ordered found = inserted-taken column row rows found
-
--- Where the next row does not have the key, none has it.
-pub no_row : (column : ℕ) (key : Value) (rows : List (List Value)) (place : ℕ) → IsInKeyOrder column rows → AreParted column key rows place → place ≤ length rows
-    → (place < length rows → value_cmp (key_in column (get_or rows place [])) key ≢ Equal) → row_with column key rows ≡ None
-no_row column key rows place ordered point within other =
-    place-free column key rows place ordered (place_found column key rows place point within other)
-
-first_with : (column : ℕ) (key : Value) (rows : List (List Value)) (place : ℕ) → place < length rows → ((k : ℕ) → k < place → has_key column key (get_or rows k []) ≡ false)
-    → has_key column key (get_or rows place []) ≡ true → row_with column key rows ≡ Some (get_or rows place [])
-first_with column key [] place within others here = absurd (omega arith)
-first_with column key (r ∷ rs) zero within others here = cond-true (has_key column key r) (Some r) (row_with column key rs) here
-first_with column key (r ∷ rs) (suc place) within others here =
-    cond-false (has_key column key r) (Some r) (row_with column key rs) (others 0 (omega arith)) ∙ first_with column key rs place (omega arith) (λ k h. others (suc k) (omega arith)) here
-
--- Where the next row has the key, it is the row.
-pub first_row : (column : ℕ) (key : Value) (rows : List (List Value)) (place : ℕ) → AreParted column key rows place → place < length rows
-    → value_cmp (key_in column (get_or rows place [])) key ≡ Equal → row_with column key rows ≡ Some (get_or rows place [])
-first_row column key rows place point within same =
-    first_with column key rows place within
-    (λ k h. less-other (key_in column (get_or rows k [])) key (less (value_cmp (key_in column (get_or rows k [])) key) (point.0 k [] (omega arith) h)))
-    (same_value-is_eq (key_in column (get_or rows place [])) key ∙ ap is_eq same)
 
 -- A row goes back where it was taken out.
 pub put_back : (rows : List (List Value)) (i : ℕ) (d : List Value) → i < length rows → insert (remove rows i) i (get_or rows i d) ≡ rows
@@ -117,10 +83,6 @@ rows_length slots (it ∷ rest) = ap suc (rows_length slots rest)
 abbrev pub ArePartedUpTo : ℕ → Value → List (List Value) → ℕ → ℕ → Type 0
 ArePartedUpTo column key rows low high =
     AllWithin (λ row. is_key_below column key row ≡ true) rows 0 low × AllWithin (λ row. is_key_below column key row ≡ false) rows high (length rows)
-
--- nothing is known yet
-pub parted_none : (column : ℕ) (key : Value) (rows : List (List Value)) (n : ℕ) → n ≡ length rows → ArePartedUpTo column key rows 0 n
-parted_none column key rows n is = (λ k d low high. absurd (omega (arith, high)), λ k d low high. absurd (omega (arith, low, high, is)))
 
 -- the row in the middle has a lower key
 pub parted_above : (column : ℕ) (key : Value) (rows : List (List Value)) (low high middle : ℕ) → IsInKeyOrder column rows → middle < length rows → is_key_below column key (get_or rows middle []) ≡ true → ArePartedUpTo column key rows low high
@@ -154,16 +116,6 @@ past (it ∷ rest) (suc i) none = let more = past rest i none in omega (arith, m
 pub order_there : (slots : Slots) (order : List ℕ) (column : ℕ) (key : Value) (i slot : ℕ) (o : Ordering) → i < length order → get_or order i 0 ≡ slot → o ≡ value_cmp (key_in column (row_in slots slot)) key
     → value_cmp (key_in column (get_or (rows_in slots order) i [])) key ≡ o
 order_there slots order column key i slot o lt at is = ap (λ (r : List Value). value_cmp (key_in column r) key) (row_there slots order i slot lt at) ∙ sym is
-
--- the row with a key stands there
-pub at_key : (column : ℕ) (key : Value) (rows : List (List Value)) (i : ℕ) → AreParted column key rows i → i < length rows → value_cmp (key_in column (get_or rows i [])) key ≡ Equal → IsAtKey (Some column) key rows (Some i)
-at_key column key rows i point within same = (get_or rows i [], slice_get-get_or rows i [] within, first_row column key rows i point within same)
-
--- where a row goes in a table
-pub takes_by_key : (table : Option ℕ) (column : ℕ) (row : List Value) (rows : List (List Value)) (place : Option ℕ) → table ≡ Some column → (IsInKeyOrder column rows → Finds column (key_in column row) rows place) → IsOrdered table rows
-    → Takes table row rows place
-takes_by_key table column row rows place keyed found =
-    subst (λ (t : Option ℕ). IsOrdered t rows → Takes t row rows place) (sym keyed) (λ ordered. place_taken row rows column place ordered (found ordered))
 
 -- at the end, where there is no key
 pub takes_at_end : (table : Option ℕ) (row : List Value) (rows : List (List Value)) (n : ℕ) → table ≡ None → n ≡ length rows → Takes table row rows (Some n)

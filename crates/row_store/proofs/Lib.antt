@@ -1,5 +1,7 @@
 pub mod SlotLemmas
 pub mod KeyLemmas
+pub mod FindLemmas
+mod ChangeLemmas
 pub mod EditLemmas
 pub mod KeptLemmas
 pub mod TurnLemmas

@@ -1,9 +1,9 @@
 -- Slots after one of them has another row, or none; and lists of slots.
-use Rattle.std.proofs.Common.{◌≡◌, ◌≢◌, ◌⊎◌, inl, inr, ⊎_elim, ℕ, zero, suc, ◌<◌, ◌≤◌, List, [], ◌∷◌, ◌++◌, length, get_or, Option, Some, None, IsTrue, refl, sym, ◌∙◌, ap, subst, arith, length-append}
+use Rattle.std.proofs.Common.{◌≡◌, ◌≢◌, ◌⊎◌, inl, ⊎_elim, ℕ, zero, suc, ◌<◌, ◌≤◌, List, [], ◌∷◌, ◌++◌, length, get_or, Option, Some, None, IsTrue, refl, sym, ◌∙◌, ap, subst, arith, length-append}
 use Rattle.std.specs.Prelude.{is_some, set}
 use Rattle.std.proofs.lemmas.List.{get_or-set_same, get_or-set_other, get_or_default, length-set}
 use Rattle.sql_value.specs.declared.value.Value.{Value}
-use Rattle.row_store.specs.Slots.{at, IsApartFrom, AreApart, AreTaken, AreVacant, AreFree, OnlyAt, Fills, Frees, Swaps}
+use Rattle.row_store.specs.Slots.{at, IsApartFrom, AreApart, AreTaken, AreVacant, AreFree, OnlyAt, Fills, Frees}
 
 abbrev Slots : Type 0
 Slots = List (Option (List Value))
@@ -37,17 +37,6 @@ only_set slots s o = λ other differs. get_or-set_other slots s other o None dif
 
 pub set_here : (slots : Slots) (s : ℕ) (o : Option (List Value)) → s < length slots → at (set slots s o) s ≡ o
 set_here slots s o lt = get_or-set_same slots s o None lt
-
--- one slot more
-pub push_here : (slots : Slots) (o : Option (List Value)) → at (slots ++ o ∷ []) (length slots) ≡ o
-push_here [] o = refl
-push_here (it ∷ rest) o = push_here rest o
-
-pub only_push : (slots : Slots) (o : Option (List Value)) (other : ℕ) → other ≢ length slots → at (slots ++ o ∷ []) other ≡ at slots other
-only_push [] o zero differs = absurd (differs refl)
-only_push [] o (suc n) differs = refl
-only_push (it ∷ rest) o zero differs = refl
-only_push (it ∷ rest) o (suc n) differs = only_push rest o n (λ same. differs (ap suc same))
 
 -- a slot that is free is none of those with rows, and the other way round
 pub apart_taken : (slots : Slots) (s : ℕ) (order : List ℕ) → AreTaken slots order → at slots s ≡ None → IsApartFrom s order
@@ -113,18 +102,6 @@ fills_free slots left row s free is are =
       grows = inl len;
     }
 
--- a row goes into a new slot
-pub fills_new : (slots : Slots) (row : List Value) (s : ℕ) (free left : List ℕ) → free ≡ [] → left ≡ [] → s ≡ length slots → Fills slots free row s (slots ++ Some row ∷ []) left
-fills_new slots row s free left none none_left is =
-    subst (λ (n : ℕ). Fills slots free row n (slots ++ Some row ∷ []) left) (sym is) (record {
-      vacant = at_past slots (length slots) (omega arith);
-      here = push_here slots (Some row);
-      others = λ other differs. only_push slots (Some row) other differs;
-      free_is = subst (AreFree (slots ++ Some row ∷ [])) (sym none_left) (record { vacant = tt; apart = tt });
-      counts = omega (arith, ap length none, ap length none_left, length-append slots (Some row ∷ []));
-      grows = inr (ap length none_left);
-    })
-
 -- the row of a slot is taken out
 pub frees_slot : (slots : Slots) (free : List ℕ) (s : ℕ) (row : List Value) → at slots s ≡ Some row → AreFree slots free → Frees slots free s row (set slots s None) (free ++ s ∷ [])
 frees_slot slots free s row is are =
@@ -140,15 +117,6 @@ frees_slot slots free s row is are =
       counts = length-append free (s ∷ []);
       same = len;
     }
-
--- another row is put in
-pub swaps_slot : (slots : Slots) (s : ℕ) (row before : List Value) → at slots s ≡ Some before → Swaps slots s row before (set slots s (Some row))
-swaps_slot slots s row before is = record {
-  before_is = is;
-  here = set_here slots s (Some row) (within_row slots s before is);
-  others = only_set slots s (Some row);
-  same = length-set slots s (Some row);
-}
 
 -- the row that was found in a slot is taken out
 pub frees_now : (slots : Slots) (free : List ℕ) (s : ℕ) (row : List Value) (found after : Option (List Value)) (more : List ℕ) → IsTrue (is_some (at slots s)) → found ≡ get_or slots s found → found ≡ Some row → after ≡ None

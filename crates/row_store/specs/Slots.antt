@@ -68,14 +68,14 @@ pub record Swaps (old : List (Option (List Value))) (slot : ℕ) (row before : L
   pub others : OnlyAt slot old new
   pub same : length new ≡ length old
 
--- The slots in order are taken and the others free; and there is room for so many rows more.
+-- The slots in order are taken and the others free; and there is room for so many rows more, and a number for the slot of each.
 pub record AreKept (slots : List (Option (List Value))) (order free : List ℕ) (spare in_slots in_order in_free : ℕ) : Type 0 where
   pub taken : AreTaken slots order
   pub apart : AreApart order
   pub free_is : AreFree slots free
   pub counts : length order + length free ≡ length slots
   pub within : length slots ≤ length order + spare
-  pub few : length order ≤ 4294967295
+  pub few : length order + spare ≤ 4294967295
   pub slots_room : length order + spare ≤ in_slots
   pub order_room : length order + spare ≤ in_order
   pub free_room : length order + spare ≤ in_free

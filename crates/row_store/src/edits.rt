@@ -4,12 +4,12 @@ ghost use Rattle.log_tables.specs.Keys.{IsOrdered};
 ghost use Rattle.row_store.specs.Slots.{rows_in};
 ghost use Rattle.row_store.specs.Turns.{Turns};
 
-use crate::keys::place_in;
+use crate::keys::place_beside;
 use crate::order::Order;
 use row_format::Row;
 
-/// Puts the slot at a place where the key of this row goes, if no other row has it; where there is no key it stays. Tells whether the key
-/// is free. No memory is taken.
+/// Puts the slot at a place where this row goes, if no other row has its key; it stays where that is its place, or there is no key. Tells
+/// whether the key is free. No memory is taken.
 pub(crate) fn turn(
     key: Option<u8>,
     slots: &[Option<Row>],
@@ -24,18 +24,12 @@ pub(crate) fn turn(
         → Turns key slots.now i row.now order.old.items order.new.items result }
     ensures room { order.new.room ≡ order.old.room }
 {
-    if key.is_none() {
-        return true;
+    let Some(j) = place_beside(key, slots, order, i, row) else {
+        return false;
+    };
+    if j != i {
+        let slot = order.remove(i);
+        order.insert_reserved(j, slot);
     }
-    let slot = order.remove(i);
-    match place_in(key, slots, order, row) {
-        Some(j) => {
-            order.insert_reserved(j, slot);
-            true
-        }
-        None => {
-            order.insert_reserved(i, slot);
-            false
-        }
-    }
+    true
 }

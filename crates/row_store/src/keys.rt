@@ -1,9 +1,10 @@
 //! Rows by key: a row is found by binary search, over slots that are read in key order.
-ghost use Rattle.std.specs.Prelude.{◌≡◌, ◌≤◌, ◌<◌, [], length, get_or, IfSome, Some, None};
+ghost use Rattle.std.specs.Prelude.{◌≡◌, ◌≤◌, ◌<◌, [], length, get_or, IfSome, IfOk, IfErr, Some, None};
+ghost use Rattle.std.specs.List.{position};
 ghost use Rattle.sql_value.specs.Values.{value_cmp};
 ghost use Rattle.log_tables.specs.Keys.{key_in, IsInKeyOrder, IsOrdered};
 ghost use Rattle.row_store.specs.Slots.{row_in as row_of, rows_in};
-ghost use Rattle.row_store.specs.Rows.{is_key_below, AreParted, Finds, Takes, IsAtKey};
+ghost use Rattle.row_store.specs.Rows.{is_key_below, is_key_above, first_above, AreParted, Finds, Takes, IsAtKey, Moves};
 
 use crate::order::Order;
 use crate::slots::row_in;
@@ -62,34 +63,63 @@ fn count_below(slots: &[Option<Row>], order: &Order, column: usize, key: &Value)
     low
 }
 
-// Where a row with this key goes among rows in key order; None where one of them has it.
-fn place_for(slots: &[Option<Row>], order: &Order, column: usize, key: &Value) -> Option<usize>
-    ensures within { IfSome result (λ i. i ≤ length order.now.items) }
+// Where the row with this key stands among rows in key order; as an Err the place for it, where none has it.
+fn find_key(
+    slots: &[Option<Row>],
+    order: &Order,
+    column: usize,
+    key: &Value,
+) -> Result<usize, usize>
+    ensures there { IfOk result (λ i. i < length order.now.items) }
+    ensures within { IfErr result (λ i. i ≤ length order.now.items) }
     ensures found { IsInKeyOrder column (rows_in slots.now order.now.items)
         → Finds column key.now (rows_in slots.now order.now.items) result }
 {
     let i = count_below(slots, order, column, key);
     match order.get(i) {
-        None => Some(i),
+        None => Err(i),
         Some(slot) => {
             if key_order(slots, slot, column, key) == Ordering::Equal {
-                None
+                Ok(i)
             } else {
-                Some(i)
+                Err(i)
             }
         }
     }
 }
 
-// Where a row goes among rows in key order; None where one of them has its key.
-fn place_of(slots: &[Option<Row>], order: &Order, column: usize, row: &Row) -> Option<usize>
-    ensures within { IfSome result (λ i. i ≤ length order.now.items) }
+/// The same for the key of a row.
+pub(crate) fn find_row(
+    slots: &[Option<Row>],
+    order: &Order,
+    column: usize,
+    row: &Row,
+) -> Result<usize, usize>
+    ensures there { IfOk result (λ i. i < length order.now.items) }
+    ensures within { IfErr result (λ i. i ≤ length order.now.items) }
     ensures found { IsInKeyOrder column (rows_in slots.now order.now.items)
         → Finds column (key_in column row.now) (rows_in slots.now order.now.items) result }
 {
     match row.values().get(column) {
-        Some(key) => place_for(slots, order, column, key),
-        None => place_for(slots, order, column, &Value::Null),
+        Some(key) => find_key(slots, order, column, key),
+        None => find_key(slots, order, column, &Value::Null),
+    }
+}
+
+/// Where the row with this key stands; None where none has it, or there is no key.
+pub(crate) fn place_at(
+    key: Option<u8>,
+    slots: &[Option<Row>],
+    order: &Order,
+    wanted: &Value,
+) -> Option<usize>
+    ensures within { IfSome result (λ i. i < length order.now.items) }
+    ensures found { IsOrdered key (rows_in slots.now order.now.items)
+        → IsAtKey key wanted.now (rows_in slots.now order.now.items) result }
+{
+    match key {
+        Some(column) => find_key(slots, order, column as usize, wanted).ok(),
+        None => None,
     }
 }
 
@@ -106,39 +136,77 @@ pub(crate) fn place_in(
         → Takes key row.now (rows_in slots.now order.now.items) result }
 {
     match key {
-        Some(column) => place_of(slots, order, column as usize, row),
+        Some(column) => find_row(slots, order, column as usize, row).err(),
         None => Some(order.len()),
     }
 }
 
-// Where the row with this key stands among rows in key order; None where none has it.
-fn place_with(slots: &[Option<Row>], order: &Order, column: usize, key: &Value) -> Option<usize>
-    ensures within { IfSome result (λ i. i < length order.now.items) }
+// Where a row goes among the others in key order, in place of the one at a place; None where another has its key.
+fn place_by_key(
+    slots: &[Option<Row>],
+    order: &Order,
+    column: usize,
+    i: usize,
+    row: &Row,
+) -> Option<usize>
+    requires { i < length order.now.items }
+    ensures within { IfSome result (λ j. j < length order.now.items) }
     ensures found { IsInKeyOrder column (rows_in slots.now order.now.items)
-        → IsAtKey (Some column) key.now (rows_in slots.now order.now.items) result }
+        → Moves (Some column) i row.now (rows_in slots.now order.now.items) result }
 {
-    let i = count_below(slots, order, column, key);
-    let slot = order.get(i)?;
-    if key_order(slots, slot, column, key) == Ordering::Equal {
-        Some(i)
-    } else {
-        None
+    match find_row(slots, order, column, row) {
+        Ok(j) => { if j == i { Some(i) } else { None } }
+        Err(j) => { if j > i { Some(j - 1) } else { Some(j) } }
     }
 }
 
-/// Where the row with this key stands; None where none has it, or there is no key.
-pub(crate) fn place_at(
+/// Where a row goes among the others, in place of the one at a place: by its key, or there where there is no key; None where another row
+/// has its key.
+pub(crate) fn place_beside(
     key: Option<u8>,
     slots: &[Option<Row>],
     order: &Order,
-    wanted: &Value,
+    i: usize,
+    row: &Row,
+) -> Option<usize>
+    requires { i < length order.now.items }
+    ensures within { IfSome result (λ j. j < length order.now.items) }
+    ensures found { IsOrdered key (rows_in slots.now order.now.items)
+        → Moves key i row.now (rows_in slots.now order.now.items) result }
+{
+    match key {
+        Some(column) => place_by_key(slots, order, column as usize, i, row),
+        None => Some(i),
+    }
+}
+
+// Where the first row with a key above this one stands among rows in key order; None where there is none.
+fn next_above(slots: &[Option<Row>], order: &Order, column: usize, low: &Value) -> Option<usize>
+    ensures within { IfSome result (λ i. i < length order.now.items) }
+    ensures found { IsInKeyOrder column (rows_in slots.now order.now.items)
+        → result ≡ position (is_key_above column low.now)
+        (rows_in slots.now order.now.items) }
+{
+    let len = order.len();
+    match find_key(slots, order, column, low) {
+        Ok(i) => (i + 1 < len).then_some(i + 1),
+        Err(i) => (i < len).then_some(i),
+    }
+}
+
+/// The same; None also where there is no key.
+pub(crate) fn place_above(
+    key: Option<u8>,
+    slots: &[Option<Row>],
+    order: &Order,
+    low: &Value,
 ) -> Option<usize>
     ensures within { IfSome result (λ i. i < length order.now.items) }
     ensures found { IsOrdered key (rows_in slots.now order.now.items)
-        → IsAtKey key wanted.now (rows_in slots.now order.now.items) result }
+        → result ≡ first_above key low.now (rows_in slots.now order.now.items) }
 {
     match key {
-        Some(column) => place_with(slots, order, column as usize, wanted),
+        Some(column) => next_above(slots, order, column as usize, low),
         None => None,
     }
 }

@@ -8,8 +8,11 @@
 #![tactic(auto)]
 
 mod block;
+mod changes;
+mod copies;
 mod edits;
 mod keys;
+mod laws;
 mod order;
 mod pack;
 mod slots;
@@ -17,4 +20,5 @@ mod table;
 #[cfg(test)]
 mod tests;
 
+pub use laws::{made_and_undone, made_as_logged};
 pub use table::RowTable;

@@ -1,15 +1,19 @@
 //! The rows of one table.
-ghost use Rattle.std.specs.Prelude.{◌≡◌, ◌≤◌, ◌<◌, ◌+◌, None, [], length, insert, remove, slice_get, Some, OnOk, OnErr, IfOk};
+ghost use Rattle.std.specs.Prelude.{◌≡◌, ◌≤◌, ◌<◌, ◌+◌, None, [], length, insert, remove, slice_get, Some, OnOk, OnErr, IfOk, is_some};
 ghost use Rattle.std.specs.Option.{option_copied};
-ghost use Rattle.row_store.specs.Rows.{Inserts, Replaces, IsAtKey};
+ghost use Rattle.log_tables.specs.Keys.{inserted, IsOrdered};
+ghost use Rattle.row_store.specs.Rows.{Inserts, Replaces, IsAtKey, Names, first_above, replaced};
 
 use crate::edits::turn;
-use crate::keys::{place_at, place_in};
+use crate::keys::{find_row, place_above, place_at, place_beside, place_in};
 use crate::order::Order;
 use crate::slots::{fill, row_in, swap, take};
 use row_format::{Row, Schema, Value};
 use std::alloc::{AllocError, Global};
 use std::marker::Model;
+
+// The most rows that a table has: each has a slot, and a slot a number of 32 bits.
+const MOST: usize = 4_294_967_295;
 
 /// The rows of one table: in key order where its schema has a key, else as they were inserted. A row is found by its key, or by its place
 /// in this order, from 0. (This project's own.)
@@ -61,16 +65,18 @@ impl RowTable {
         }
     }
 
-    /// The schema of the table.
+    /// The schema of the table. Its rows are in the order of its key.
     pub fn schema(&self) -> &Schema
-        ensures { result.now ≡ self.now.schema }
+        ensures value { result.now ≡ self.now.schema }
+        ensures ordered { IsOrdered self.now.schema.key self.now.rows }
     {
         &self.schema
     }
 
     /// How many rows there are.
     pub fn len(&self) -> usize
-        ensures { result ≡ length self.now.rows }
+        ensures value { result ≡ length self.now.rows }
+        ensures most { result ≤ 4294967295 }
     {
         self.order.len()
     }
@@ -84,16 +90,20 @@ impl RowTable {
 
     /// Makes room for so many rows more, where there is not as much.
     ///
-    /// `AllocError` for want of memory; then all is as it was.
+    /// `AllocError` for want of memory, or where these would be more than 4,294,967,295 rows with those there are; then all is as it was.
     pub fn reserve(&mut self, n: usize) -> Result<(), AllocError>
         ensures schema { self.new.schema ≡ self.old.schema }
         ensures rows { self.new.rows ≡ self.old.rows }
         ensures no_less { self.old.spare ≤ self.new.spare }
         ensures room { OnOk result (n ≤ self.new.spare) }
+        ensures most { length self.new.rows + self.new.spare ≤ 4294967295 }
         ensures err { OnErr result (self.new ≡ self.old) }
     {
         if n <= self.spare {
             return Ok(());
+        }
+        if n > MOST - self.order.len() {
+            return Err(AllocError);
         }
         self.slots.reserve(n)?;
         self.order.reserve(n)?;
@@ -113,6 +123,47 @@ impl RowTable {
         }
     }
 
+    /// Where the first row with a key above this one stands; None where there is none, or the table has no key.
+    pub fn above_key(&self, key: &Value) -> Option<u32>
+        ensures { result ≡ first_above self.now.schema.key key.now self.now.rows }
+    {
+        match place_above(self.schema.key, &self.slots, &self.order, key) {
+            Some(place) => Some(place as u32),
+            None => None,
+        }
+    }
+
+    /// Where a Delete or an Update looks for the row that it names: where the row with its key stands, or at its place.
+    pub(crate) fn seek(&self, place: u32, row: &Row) -> Option<u32>
+        ensures names { Names self.now.schema.key place row.now self.now.rows result }
+        ensures ordered { IsOrdered self.now.schema.key self.now.rows }
+    {
+        let Some(column) = self.schema.key else {
+            return Some(place);
+        };
+        match find_row(&self.slots, &self.order, column as usize, row) {
+            Ok(i) => Some(i as u32),
+            Err(_) => None,
+        }
+    }
+
+    /// Whether a row can be added: whether no row has its key.
+    pub(crate) fn can_insert(&self, row: &Row) -> bool
+        ensures { result ≡ is_some (inserted self.now.schema.key row.now self.now.rows) }
+    {
+        place_in(self.schema.key, &self.slots, &self.order, row).is_some()
+    }
+
+    /// Whether a row can take the place of the one there: whether no other row has its key.
+    pub(crate) fn can_replace(&self, place: u32, row: &Row) -> bool
+        requires { place < length self.now.rows }
+        ensures { result ≡ is_some
+            (replaced self.now.schema.key place row.now self.now.rows) }
+    {
+        let i = place as usize;
+        place_beside(self.schema.key, &self.slots, &self.order, i, row).is_some()
+    }
+
     /// The row at a place; None exactly where there is no such place.
     pub fn at_place(&self, place: u32) -> Option<&Row>
         ensures { option_copied result ≡ slice_get self.now.rows place }
@@ -127,7 +178,6 @@ impl RowTable {
     /// there. No memory is taken.
     pub fn insert(&mut self, row: Row) -> Result<u32, Row>
         requires spare { 0 < self.old.spare }
-        requires few { length self.old.rows < 4294967295 }
         ensures inserts { Inserts row self.old self.new result }
         ensures end { self.old.schema.key ≡ None
             → IfOk result (λ place. place ≡ length self.old.rows) }
@@ -146,7 +196,6 @@ impl RowTable {
         requires keyless { self.old.schema.key ≡ None }
         requires place { place ≤ length self.old.rows }
         requires spare { 0 < self.old.spare }
-        requires few { length self.old.rows < 4294967295 }
         ensures schema { self.new.schema ≡ self.old.schema }
         ensures rows { self.new.rows ≡ insert self.old.rows place row }
         ensures spare { self.new.spare + 1 ≡ self.old.spare }

@@ -1,21 +1,25 @@
 //! Rows that were worked out by hand, and many calls beside a plain list.
 use crate::RowTable;
-use row_format::{Column, Columns, Kind, Name, Row, Schema, Text, Value};
+use row_format::{Change, Column, Columns, Kind, Name, Row, Schema, TableMap, Text, Value};
 use std::alloc::{AllocError, Global};
 use std::test::Fail;
 
 // A table can be sent to another thread.
 fn is_send<T: Send>(_: &T) {}
 
-fn column(alloc: Global, letter: u8, kind: Kind) -> Result<Column, Fail> {
+fn name(alloc: Global, letter: u8) -> Result<Name, AllocError> {
     match Name::new([letter].to_vec(alloc)?) {
-        Ok(name) => Ok(Column {
-            name,
-            kind,
-            nullable: false,
-        }),
-        Err(_) => Err(Fail::from(AllocError)),
+        Ok(name) => Ok(name),
+        Err(_) => Err(AllocError),
     }
+}
+
+fn column(alloc: Global, letter: u8, kind: Kind) -> Result<Column, Fail> {
+    Ok(Column {
+        name: name(alloc, letter)?,
+        kind,
+        nullable: false,
+    })
 }
 
 // A table of a number and a text, with this key column.
@@ -55,9 +59,6 @@ fn keys_of(alloc: Global, table: &RowTable) -> Result<Vec<i64>, AllocError> {
 
 // Adds a row where its key is free, and tells its place.
 fn add(table: &mut RowTable, row: Row) -> Result<Option<u32>, AllocError> {
-    if table.len() >= 10_000 {
-        return Err(AllocError);
-    }
     table.reserve(1)?;
     Ok(table.insert(row).ok())
 }
@@ -100,6 +101,63 @@ fn rows_stand_in_key_order(rt: HostRuntime) -> Result<(), Fail> {
     assert_eq!(rt; take(&mut rows, 1), Some(3));
     assert!(rt; keys_of(alloc, &rows)?.as_slice() == [2, 5].as_slice());
     assert!(rt; rows.at_place(2).is_none());
+    Ok(())
+}
+
+#[test]
+fn a_row_that_is_replaced_goes_where_its_key_goes(rt: HostRuntime) -> Result<(), Fail> {
+    let alloc = rt.alloc();
+    let mut rows = table(alloc, Some(0))?;
+    for key in [10, 20, 30, 40] {
+        assert!(rt; add(&mut rows, row(alloc, key, b'a')?)?.is_some());
+    }
+    let cases = [
+        (1, 20, true, [10, 20, 30, 40]),
+        (1, 25, true, [10, 25, 30, 40]),
+        (1, 35, true, [10, 30, 35, 40]),
+        (2, 5, true, [5, 10, 30, 40]),
+        (0, 30, false, [5, 10, 30, 40]),
+        (3, 10, false, [5, 10, 30, 40]),
+        (3, 50, true, [5, 10, 30, 50]),
+        (0, 60, true, [10, 30, 50, 60]),
+    ];
+    for (place, key, free, keys) in cases {
+        assert_eq!(rt;
+            put(&mut rows, place, row(alloc, key, b'b')?),
+            Some(free),
+            "key {key}"
+        );
+        assert!(rt;
+            keys_of(alloc, &rows)?.as_slice() == keys.as_slice(),
+            "key {key}"
+        );
+    }
+    Ok(())
+}
+
+#[test]
+fn the_first_key_above_is_found(rt: HostRuntime) -> Result<(), Fail> {
+    let alloc = rt.alloc();
+    let mut rows = table(alloc, Some(0))?;
+    let mut heap = table(alloc, None)?;
+    for key in [10, 20, 30] {
+        assert!(rt; add(&mut rows, row(alloc, key, b'a')?)?.is_some());
+        assert!(rt; add(&mut heap, row(alloc, key, b'a')?)?.is_some());
+    }
+    let cases = [
+        (9, Some(0)),
+        (10, Some(1)),
+        (11, Some(1)),
+        (20, Some(2)),
+        (29, Some(2)),
+        (30, None),
+        (31, None),
+    ];
+    for (key, place) in cases {
+        assert_eq!(rt; rows.above_key(&Value::Int(key)), place, "key {key}");
+    }
+    assert_eq!(rt; rows.above_key(&Value::Null), Some(0));
+    assert_eq!(rt; heap.above_key(&Value::Int(9)), None);
     Ok(())
 }
 
@@ -158,7 +216,7 @@ fn many_rows_come_and_go_at_the_front(rt: HostRuntime) -> Result<(), Fail> {
 
 // Puts a row at the front of a table that has no key, where there is room.
 fn put_back(table: &mut RowTable, row: Row) {
-    if table.schema().key.is_none() && table.spare() > 0 && table.len() < 1_000 {
+    if table.schema().key.is_none() && table.spare() > 0 {
         table.insert_at(0, row);
     }
 }
@@ -202,5 +260,128 @@ fn many_calls_do_what_a_plain_list_does(rt: HostRuntime) -> Result<(), Fail> {
             "round {round}"
         );
     }
+    Ok(())
+}
+
+// A row by its number and its letter, where there is one.
+fn row_if(alloc: Global, cells: Option<(i64, u8)>) -> Result<Option<Row>, AllocError> {
+    match cells {
+        Some((key, letter)) => Ok(Some(row(alloc, key, letter)?)),
+        None => Ok(None),
+    }
+}
+
+// A change at a place: from a row, or from none, to another, or to none.
+type Step = (u32, Option<(i64, u8)>, Option<(i64, u8)>);
+
+// The change of a table, as the log would have it.
+fn change(alloc: Global, table: &RowTable, step: Step) -> Result<Change, AllocError> {
+    let (place, before, after) = step;
+    let map = TableMap {
+        table: name(alloc, b't')?,
+        schema: table.schema().copy(alloc)?,
+    };
+    match (row_if(alloc, before)?, row_if(alloc, after)?) {
+        (None, Some(row)) => Ok(Change::Insert { map, row }),
+        (Some(before), None) => Ok(Change::Delete { map, place, before }),
+        (Some(before), Some(after)) => Ok(Change::Update {
+            map,
+            place,
+            before,
+            after,
+        }),
+        (None, None) => Err(AllocError),
+    }
+}
+
+// Makes a change and undoes it; the keys in between, or None where it does not apply.
+fn there_and_back(
+    table: &mut RowTable,
+    alloc: Global,
+    change: Change,
+) -> Result<Option<Vec<i64>>, AllocError> {
+    if !table.applies(&change) {
+        return Ok(None);
+    }
+    table.make(&change, alloc)?;
+    let keys = keys_of(alloc, table)?;
+    table.undo(change);
+    Ok(Some(keys))
+}
+
+// Whether the keys are these between a change and its undoing, and those that they were again afterwards.
+fn sees(table: &mut RowTable, alloc: Global, step: Step, keys: &[i64]) -> Result<bool, AllocError> {
+    let before = keys_of(alloc, table)?;
+    let change = change(alloc, table, step)?;
+    let seen = there_and_back(table, alloc, change)?;
+    let after = keys_of(alloc, table)?;
+    match seen {
+        Some(seen) => Ok(seen.as_slice() == keys && before.as_slice() == after.as_slice()),
+        None => Ok(false),
+    }
+}
+
+// Whether a change applies.
+fn applies(table: &RowTable, alloc: Global, step: Step) -> Result<bool, AllocError> {
+    Ok(table.applies(&change(alloc, table, step)?))
+}
+
+#[test]
+fn changes_by_key_are_made_and_undone(rt: HostRuntime) -> Result<(), Fail> {
+    let alloc = rt.alloc();
+    let mut rows = table(alloc, Some(0))?;
+    for key in [1, 2, 3] {
+        assert!(rt; add(&mut rows, row(alloc, key, b'a')?)?.is_some());
+    }
+    let deletes = (0, Some((2, b'a')), None);
+    assert!(rt; sees(&mut rows, alloc, deletes, [1, 3].as_slice())?);
+    assert_eq!(rt; rows.spare(), 0);
+    let moves = (0, Some((1, b'a')), Some((4, b'b')));
+    assert!(rt; sees(&mut rows, alloc, moves, [2, 3, 4].as_slice())?);
+    let stays = (0, Some((2, b'a')), Some((2, b'b')));
+    assert!(rt; sees(&mut rows, alloc, stays, [1, 2, 3].as_slice())?);
+    let inserts = (0, None, Some((0, b'b')));
+    assert!(rt; sees(&mut rows, alloc, inserts, [0, 1, 2, 3].as_slice())?);
+    Ok(())
+}
+
+#[test]
+fn changes_by_place_are_made_and_undone(rt: HostRuntime) -> Result<(), Fail> {
+    let alloc = rt.alloc();
+    let mut rows = table(alloc, None)?;
+    for key in [3, 1, 3] {
+        assert!(rt; add(&mut rows, row(alloc, key, b'a')?)?.is_some());
+    }
+    let deletes = (1, Some((1, b'a')), None);
+    assert!(rt; sees(&mut rows, alloc, deletes, [3, 3].as_slice())?);
+    let stays = (2, Some((3, b'a')), Some((1, b'b')));
+    assert!(rt; sees(&mut rows, alloc, stays, [3, 1, 1].as_slice())?);
+    let inserts = (0, None, Some((3, b'b')));
+    assert!(rt; sees(&mut rows, alloc, inserts, [3, 1, 3, 3].as_slice())?);
+    Ok(())
+}
+
+#[test]
+fn changes_of_other_rows_do_not_apply(rt: HostRuntime) -> Result<(), Fail> {
+    let alloc = rt.alloc();
+    let mut rows = table(alloc, Some(0))?;
+    for key in [1, 2, 3] {
+        assert!(rt; add(&mut rows, row(alloc, key, b'a')?)?.is_some());
+    }
+    assert!(rt; !applies(&rows, alloc, (0, None, Some((3, b'b'))))?);
+    assert!(rt; !applies(&rows, alloc, (0, Some((9, b'a')), None))?);
+    assert!(rt; !applies(&rows, alloc, (0, Some((1, b'b')), None))?);
+    assert!(rt; !applies(&rows, alloc, (0, Some((1, b'a')), Some((3, b'b'))))?);
+    Ok(())
+}
+
+#[test]
+fn there_is_no_room_for_more_rows_than_have_numbers(rt: HostRuntime) -> Result<(), Fail> {
+    let alloc = rt.alloc();
+    let mut rows = table(alloc, Some(0))?;
+    assert!(rt; rows.reserve(4_294_967_296).is_err());
+    assert!(rt; add(&mut rows, row(alloc, 1, b'a')?)?.is_some());
+    assert!(rt; rows.reserve(4_294_967_295).is_err());
+    assert_eq!(rt; (rows.len(), rows.spare()), (1, 0));
     Ok(())
 }

@@ -9,7 +9,7 @@ invariant_of-self c =
     let t = c.self.inside in
     let room : t.order.room ≤ c.insert_reserved.new.self.room = search rules in
     let r = came t.schema.key t.slots.items c.fill-slot.new.slots.items t.order.items c.insert_reserved.new.self.items t.free.items c.fill-slot.new.free.items t.spare _ _ _ _ _ _ c.fill-slot.result c.in-Some.i c.args.row c.deref.result.now
-    c.self.invariant.0 (subst (λ (h : Held). 0 < h.spare) (sym c.self.view_is) c.requires.spare) (subst (λ (h : Held). length h.rows < 4294967295) (sym c.self.view_is) c.requires.few) c.fill-slot.ensures.fills c.deref.ensures.value c.in-Some.ensures.within c.in-Some.ensures.found
+    c.self.invariant.0 (subst (λ (h : Held). 0 < h.spare) (sym c.self.view_is) c.requires.spare) c.fill-slot.ensures.fills c.deref.ensures.value c.in-Some.ensures.within c.in-Some.ensures.found
     c.insert_reserved.ensures.items c.fill-slot.ensures.slots_room room c.fill-slot.ensures.free_room c.self.invariant.1 in
     (r.kept, r.ordered)
 
@@ -18,7 +18,7 @@ returns c =
     let t = c.self.inside in
     let room : t.order.room ≤ c.insert_reserved.new.self.room = search rules in
     let r = came t.schema.key t.slots.items c.fill-slot.new.slots.items t.order.items c.insert_reserved.new.self.items t.free.items c.fill-slot.new.free.items t.spare _ _ _ _ _ _ c.fill-slot.result c.in-Some.i c.args.row c.deref.result.now
-    c.self.invariant.0 (subst (λ (h : Held). 0 < h.spare) (sym c.self.view_is) c.requires.spare) (subst (λ (h : Held). length h.rows < 4294967295) (sym c.self.view_is) c.requires.few) c.fill-slot.ensures.fills c.deref.ensures.value c.in-Some.ensures.within c.in-Some.ensures.found
+    c.self.invariant.0 (subst (λ (h : Held). 0 < h.spare) (sym c.self.view_is) c.requires.spare) c.fill-slot.ensures.fills c.deref.ensures.value c.in-Some.ensures.within c.in-Some.ensures.found
     c.insert_reserved.ensures.items c.fill-slot.ensures.slots_room room c.fill-slot.ensures.free_room c.self.invariant.1 in
     record {
       inserts = inserts_as c.args.row _ _ _ _ c.self.view_is (inserts_ok c.args.row _ _ c.in-Some.i r.takes r.rows r.within r.less refl);

@@ -9,7 +9,7 @@ invariant_of-self c =
     let t = c.self.inside in
     let room : t.order.room ≤ c.insert_reserved.new.self.room = search rules in
     let r = came_at t.schema.key t.slots.items c.fill-slot.new.slots.items t.order.items c.insert_reserved.new.self.items t.free.items c.fill-slot.new.free.items t.spare _ _ _ _ _ _ c.fill-slot.result c.args.place c.args.row
-    c.self.invariant.0 (ap (λ (h : Held). h.schema.key) c.self.view_is ∙ c.requires.keyless) (subst (λ (h : Held). 0 < h.spare) (sym c.self.view_is) c.requires.spare) (subst (λ (h : Held). length h.rows < 4294967295) (sym c.self.view_is) c.requires.few)
+    c.self.invariant.0 (ap (λ (h : Held). h.schema.key) c.self.view_is ∙ c.requires.keyless) (subst (λ (h : Held). 0 < h.spare) (sym c.self.view_is) c.requires.spare)
     c.fill-slot.ensures.fills (subst (λ (h : Held). c.args.place ≤ length h.rows) (sym c.self.view_is) c.requires.place) c.insert_reserved.ensures.items c.fill-slot.ensures.slots_room room c.fill-slot.ensures.free_room c.self.invariant.1 in
     (r.0, r.1)
 
@@ -18,6 +18,6 @@ returns-clause-rows c =
     let t = c.self.inside in
     let room : t.order.room ≤ c.insert_reserved.new.self.room = search rules in
     let r = came_at t.schema.key t.slots.items c.fill-slot.new.slots.items t.order.items c.insert_reserved.new.self.items t.free.items c.fill-slot.new.free.items t.spare _ _ _ _ _ _ c.fill-slot.result c.args.place c.args.row
-    c.self.invariant.0 (ap (λ (h : Held). h.schema.key) c.self.view_is ∙ c.requires.keyless) (subst (λ (h : Held). 0 < h.spare) (sym c.self.view_is) c.requires.spare) (subst (λ (h : Held). length h.rows < 4294967295) (sym c.self.view_is) c.requires.few)
+    c.self.invariant.0 (ap (λ (h : Held). h.schema.key) c.self.view_is ∙ c.requires.keyless) (subst (λ (h : Held). 0 < h.spare) (sym c.self.view_is) c.requires.spare)
     c.fill-slot.ensures.fills (subst (λ (h : Held). c.args.place ≤ length h.rows) (sym c.self.view_is) c.requires.place) c.insert_reserved.ensures.items c.fill-slot.ensures.slots_room room c.fill-slot.ensures.free_room c.self.invariant.1 in
     r.2 ∙ ap (λ (h : Held). insert h.rows c.args.place c.args.row) c.self.view_is

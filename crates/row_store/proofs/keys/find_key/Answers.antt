@@ -1,8 +1,9 @@
 use Rattle.std.proofs.Common.{arith, sym, ◌∙◌}
 use Rattle.std.proofs.lemmas.Option.{slice_get_within, get_or_from_slice_get}
 use Rattle.row_store.specs.Slots.{rows_in}
-use Rattle.row_store.proofs.KeyLemmas.{place_found, key_found, is_equal, is_other, rows_length, past, order_there}
-use Rattle.row_store.proofs.keys.place_for.Goals as goal
+use Rattle.row_store.proofs.KeyLemmas.{place_found, is_equal, is_other, rows_length, past, order_there}
+use Rattle.row_store.proofs.FindLemmas.{found_there}
+use Rattle.row_store.proofs.keys.find_key.Goals as goal
 
 pub returns-in-None-clause-found : goal.returns-in-None-clause-found
 returns-in-None-clause-found c = λ ordered.
@@ -19,7 +20,7 @@ returns-then-eq-clause-found c = λ ordered.
     let there = sym c.in-Some.ensures in
     let lt = slice_get_within c.args.order.now.items c.count_below-i.result c.in-Some.slot there in
     let is = get_or_from_slice_get c.args.order.now.items c.count_below-i.result c.in-Some.slot 0 there in
-    key_found c.args.column c.args.key.now rows c.count_below-i.result (omega (arith, lt, size))
+    found_there c.args.column c.args.key.now rows c.count_below-i.result (omega (arith, lt, size))
     (order_there c.args.slots.now c.args.order.now.items c.args.column c.args.key.now c.count_below-i.result c.in-Some.slot c.key_order.result lt is c.key_order.ensures ∙ is_equal c.key_order.result (sym c.if-eq.ensures))
 
 pub returns-else-eq-clause-found : goal.returns-else-eq-clause-found
