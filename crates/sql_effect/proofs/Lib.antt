@@ -1,0 +1,10 @@
+pub mod ListLemmas
+pub mod ConditionLemmas
+pub mod SelectLemmas
+pub mod SizeLemmas
+pub mod PlaceLemmas
+pub mod InsertLemmas
+pub mod RewriteLemmas
+pub mod EffectLemmas
+pub mod TextLemmas
+pub mod OrderLemmas

@@ -1,0 +1,12 @@
+use Rattle.std.proofs.Common.{◌≡◌, ◌≤◌, ◌-◌, length, drop}
+use Rattle.sql_effect.specs.Values.{terms_value}
+use Rattle.sql_effect.proofs.values.terms_value.Given as goal
+
+abbrev pub invariant-loop-i : goal.invariant-loop-i
+invariant-loop-i l = record {
+  within : l.i ≤ length l.terms;
+  value : terms_value l.columns l.row l.so_far (drop l.i l.terms) ≡ terms_value l.columns l.row l.fn.first l.terms;
+}
+
+abbrev pub decreases-loop-i : goal.decreases-loop-i
+decreases-loop-i l = length l.terms - l.i

@@ -1,0 +1,9 @@
+pub mod Values
+pub mod Conditions
+pub mod Select
+pub mod Sizes
+pub mod Insert
+pub mod Rewrite
+pub mod Outcomes
+pub mod Effects
+pub mod Texts
