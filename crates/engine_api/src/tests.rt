@@ -137,12 +137,22 @@ fn copy_row(alloc: Global, row: &Row) -> Result<Row, AllocError>
     Ok(Row::new(copy))
 }
 
-const FLAGS: Flags = Flags {
-    transactional: true,
-    crash_safe: true,
-    key: KeyRule::Allowed,
-    nulls: true,
-};
+// What an engine can do that is crash safe.
+fn flags_of(transactional: bool) -> Flags
+    ensures { result ≡ record {
+      transactional = transactional;
+      crash_safe = true;
+      key = Allowed;
+      nulls = true;
+    } }
+{
+    Flags {
+        transactional,
+        crash_safe: true,
+        key: KeyRule::Allowed,
+        nulls: true,
+    }
+}
 
 // An engine with the tables of its gist, and with no files. Its rows are read. It has no memory for a change: each one is refused.
 #[derive(Drop)]
@@ -150,6 +160,7 @@ struct NoMemory {
     alloc: Global,
     name: Name,
     soname: Text,
+    transactional: bool,
     gist: Gist,
 }
 
@@ -158,7 +169,7 @@ impl Engine for NoMemory {
       name = e.name;
       soname = e.soname;
       flags = record {
-        transactional = true;
+        transactional = e.transactional;
         crash_safe = true;
         key = Allowed;
         nulls = true;
@@ -186,7 +197,7 @@ impl Engine for NoMemory {
     }
 
     fn flags(&self) -> Flags {
-        FLAGS
+        flags_of(self.transactional)
     }
 
     fn init(&mut self, volume: &mut dyn Storage, tables: &[Definition]) -> Result<(), EngineFault> {
@@ -380,7 +391,8 @@ fn table(
 
 // The engine N of n.so, with the table e, which is empty, and the table t of two rows. Its last number is 7.
 fn engine(rt: &impl Abort, alloc: Global) -> Result<NoMemory, AllocError>
-    ensures { IfOk result (λ e. e.gist.prepared ≡ []) }
+    ensures nothing_prepared { IfOk result (λ e. e.gist.prepared ≡ []) }
+    ensures transactional { IfOk result (λ e. e.transactional ≡ true) }
 {
     let mut rows = Vec::new(alloc);
     rows.push(row(alloc, 1, b"a")?)?;
@@ -392,6 +404,7 @@ fn engine(rt: &impl Abort, alloc: Global) -> Result<NoMemory, AllocError>
         alloc,
         name: name(rt, alloc, b"N")?,
         soname: Text::new(b"n.so".to_vec(alloc)?),
+        transactional: true,
         gist: Gist {
             tables: Tables::new(tables),
             prepared: PreparedList::new(Vec::new(alloc)),
@@ -623,7 +636,7 @@ fn an_engine_tells_its_tables(rt: HostRuntime) -> Result<(), Fail> {
     let mut engine: Box<dyn Engine + Send> = Box::new(alloc, engine(&rt, alloc)?)?;
     assert!(rt; engine.name().as_bytes() == b"N".as_slice());
     assert!(rt; engine.soname().as_bytes() == b"n.so".as_slice());
-    assert_eq!(rt; engine.flags(), FLAGS);
+    assert_eq!(rt; engine.flags(), flags_of(true));
     assert_eq!(rt; engine.last_number(), 7);
     let table = name(&rt, alloc, b"t")?;
     assert_eq!(rt; engine.external_lock(1, &table, Use::Read), Ok(()));
