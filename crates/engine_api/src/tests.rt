@@ -21,7 +21,7 @@ use crate::{
 };
 use disk_model::{MemoryStorage, Storage};
 use log_tables::{PreparedList, Rows, Tables};
-use row_format::{Column, Kind, Name, Row, Schema, Text, Value, is_same_value};
+use row_format::{Column, Kind, Name, Row, Schema, Text, Value, copy_row, is_same_value};
 use sql_value::value_order;
 use std::alloc::{AllocError, Global};
 use std::cmp::Ordering;
@@ -113,28 +113,6 @@ fn read_above<'a>(tables: &'a [Table], table: &Name, key: &Value) -> Option<&'a 
         None => None,
         Some(column) => with_key_above(it.rows.as_slice(), column as usize, key),
     }
-}
-
-fn copy_value(value: &Value) -> Result<Value, AllocError>
-    ensures { IfOk result (λ v. v ≡ value.now) }
-{
-    match value {
-        Value::Null => Ok(Value::Null),
-        Value::Int(n) => Ok(Value::Int(*n)),
-        Value::Text(text) => Ok(Value::Text(text.copy()?)),
-    }
-}
-
-// The same row once more.
-fn copy_row(alloc: Global, row: &Row) -> Result<Row, AllocError>
-    ensures { IfOk result (λ r. r ≡ row.now) }
-{
-    let values = row.values();
-    let mut copy = Vec::with_capacity(alloc, values.len())?;
-    for value in values {
-        copy.push(copy_value(value)?)?;
-    }
-    Ok(Row::new(copy))
 }
 
 // What an engine can do that is crash safe.

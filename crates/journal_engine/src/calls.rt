@@ -2,7 +2,7 @@
 ghost use Rattle.std.specs.Prelude.{◌≡◌, false};
 
 use crate::JournalEngine;
-use crate::copies::{copy_changes, copy_row};
+use crate::copies::copy_changes;
 use crate::engine::{named, small};
 use crate::replay::replay;
 use crate::room::is_past;
@@ -10,7 +10,7 @@ use crate::write::{flush, put};
 use disk_model::Storage;
 use engine_api::{Code, Cursor, Definition, Engine, EngineFault, Flags, KeyRule, Prepared, Use};
 use redo_journal::{Journal, JournalFault, Record};
-use row_format::{Changes, Name, Row, Schema, Text, Value};
+use row_format::{Changes, Name, Row, Schema, Text, Value, copy_row};
 
 /// What the engine can do.
 const FLAGS: Flags = Flags {

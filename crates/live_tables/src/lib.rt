@@ -10,7 +10,6 @@ mod back;
 mod behind;
 mod below;
 mod bytes;
-mod copies;
 mod finish;
 mod gone;
 mod laws;

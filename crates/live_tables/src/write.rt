@@ -13,12 +13,11 @@ ghost use Rattle.live_tables.specs.Live.{most_bytes, Adds};
 
 use crate::LiveTables;
 use crate::bytes::change_len;
-use crate::copies::copy_row;
 use crate::gone::is_within;
 use crate::pending::add_change;
 use crate::tables::make_some;
 use engine_api::{Code, EngineFault};
-use row_format::{Change, Name, Row, Schema, TableMap};
+use row_format::{Change, Name, Row, Schema, TableMap, copy_row};
 use std::alloc::AllocError;
 
 /// How many bytes the live tables of an engine may have.

@@ -1,7 +1,7 @@
-//! A schema or a table map once more.
+//! A schema, a table map, a value or a row once more.
 ghost use Rattle.std.specs.Prelude.{◌≡◌, IfOk};
 
-use crate::{Column, Columns, Schema, TableMap};
+use crate::{Column, Columns, Row, Schema, TableMap, Value};
 use std::alloc::{AllocError, Global};
 
 fn copy_column(column: &Column) -> Result<Column, AllocError>
@@ -50,4 +50,39 @@ impl TableMap {
         let schema = self.schema.copy(alloc)?;
         Ok(TableMap { table, schema })
     }
+}
+
+/// The same value once more.
+///
+/// `AllocError` for want of memory.
+pub fn copy_value(value: &Value) -> Result<Value, AllocError>
+    ensures { IfOk result (λ v. v ≡ value.now) }
+{
+    match value {
+        Value::Null => Ok(Value::Null),
+        Value::Int(n) => Ok(Value::Int(*n)),
+        Value::Text(text) => Ok(Value::Text(text.copy()?)),
+    }
+}
+
+/// The same values once more, in the same order.
+///
+/// `AllocError` for want of memory.
+pub fn copy_values(alloc: Global, values: &[Value]) -> Result<Vec<Value>, AllocError>
+    ensures { IfOk result (λ v. v.items ≡ values.now) }
+{
+    let mut copy = Vec::with_capacity(alloc, values.len())?;
+    for value in values {
+        copy.push(copy_value(value)?)?;
+    }
+    Ok(copy)
+}
+
+/// The same row once more.
+///
+/// `AllocError` for want of memory.
+pub fn copy_row(alloc: Global, row: &Row) -> Result<Row, AllocError>
+    ensures { IfOk result (λ r. r ≡ row.now) }
+{
+    Ok(Row::new(copy_values(alloc, row.values())?))
 }

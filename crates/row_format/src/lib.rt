@@ -21,6 +21,7 @@ mod tests;
 
 pub use change::{Change, Changes, TableMap, Transaction};
 pub use check::{check_row, key_of};
+pub use copies::{copy_row, copy_value, copy_values};
 pub use fault::Unread;
 pub use image::put_image;
 pub use laws::{one_name, one_row, one_schema};

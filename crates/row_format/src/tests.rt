@@ -1,8 +1,8 @@
 //! Values from outside: bytes that were spelt by hand, and what stands there; limits of schemas; refusals of rows.
 
 use crate::{
-    Column, Kind, Name, Row, Schema, Text, Value, check_row, image_len, key_of, name_of, put_name,
-    put_row, put_schema, row_of, schema_len, schema_of,
+    Column, Kind, Name, Row, Schema, Text, Value, check_row, copy_row, image_len, is_same_row,
+    key_of, name_of, put_name, put_row, put_schema, row_of, schema_len, schema_of,
 };
 use std::alloc::Global;
 use std::test::Fail;
@@ -36,6 +36,8 @@ fn rows_are_read_and_written(rt: HostRuntime) -> Result<(), Fail> {
     let mut out = Vec::new(rt.alloc());
     put_row(&schema, &row, &mut out)?;
     assert_eq!(rt; out.as_slice(), ROW.as_slice());
+    let copy = copy_row(rt.alloc(), &row)?;
+    assert!(rt; is_same_row(&copy, &row));
     assert!(rt; row_of(rt.alloc(), &schema, &ROW[..10])?.is_none());
     let Some((name, used)) = name_of(rt.alloc(), &NAME)? else {
         return Err(Fail::from("no name"));

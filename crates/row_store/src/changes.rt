@@ -6,9 +6,8 @@ ghost use Rattle.log_tables.specs.Keys.{inserted, deleted, updated, IsOrdered};
 ghost use Rattle.row_store.specs.Rows.{StandsAt, StandsIf};
 ghost use Rattle.row_store.specs.Changes.{changed_rows, made_rows, returned, undone_rows, rows_before, uses, gives};
 
-use crate::copies::copy_row;
 use crate::table::RowTable;
-use row_format::{Change, Row, is_same_row};
+use row_format::{Change, Row, copy_row, is_same_row};
 use std::alloc::{AllocError, Global};
 
 impl RowTable {

@@ -9,7 +9,6 @@
 
 mod block;
 mod changes;
-mod copies;
 mod edits;
 mod keys;
 mod laws;

@@ -6,7 +6,6 @@
 #![tactic(auto)]
 
 mod conditions;
-mod copies;
 mod effects;
 mod insert;
 mod keys;

@@ -13,13 +13,14 @@ ghost use Rattle.sql_effect.specs.Values.{sum_value};
 ghost use Rattle.sql_effect.specs.declared.rewrite.Made.TheVariants.{Goes};
 
 use crate::conditions::cond_truth;
-use crate::copies::{copy_row, copy_values};
 use crate::insert::map_of;
 use crate::keys::check_place;
 use crate::shape::EffectFault;
 use crate::values::{place_named, sum_value};
 use log_tables::{Definition, Table};
-use row_format::{Change, Column, Schema, check_row, image_len, is_same_row};
+use row_format::{
+    Change, Column, Schema, check_row, copy_row, copy_values, image_len, is_same_row,
+};
 use sql_text::{Assign, Cond, Statement};
 use sql_value::{Refusal, Row, Truth, Value};
 use std::alloc::{AllocError, Global};

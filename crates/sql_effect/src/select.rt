@@ -6,10 +6,9 @@ ghost use Rattle.sql_effect.specs.Select.{is_yes, is_decided, search_refusal, pi
 ghost use Rattle.sql_effect.specs.Values.{value_named};
 
 use crate::conditions::cond_truth;
-use crate::copies::copy_values;
 use crate::shape::EffectFault;
 use crate::values::value_named;
-use row_format::Column;
+use row_format::{Column, copy_values};
 use sql_text::{Cond, ListOf};
 use sql_value::{Name, Refusal, Row, Truth, Value};
 use std::alloc::{AllocError, Global};

@@ -5,8 +5,7 @@ ghost use Rattle.sql_value.specs.declared.value.Value.TheVariants.{Null};
 ghost use Rattle.row_format.specs.Schemas.{is_called};
 ghost use Rattle.sql_effect.specs.Values.{value_named, literal_value, operand_value, big_int, number_after, value_after, terms_value, sum_value};
 
-use crate::copies::copy_value;
-use row_format::Column;
+use row_format::{Column, copy_value};
 use sql_text::{Literal, Operand, Sum, Term};
 use sql_value::{Name, Value};
 use std::alloc::AllocError;

@@ -1,5 +1,5 @@
 use Rattle.std.proofs.Common.{◌≡◌, take}
-use Rattle.row_store.proofs.copies.copy_row.Given as goal
+use Rattle.row_format.proofs.copies.copy_values.Given as goal
 
 abbrev pub invariant-loop-value : goal.invariant-loop-value
 invariant-loop-value l = l.copy.items ≡ take l.value-index l.values
