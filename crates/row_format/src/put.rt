@@ -88,7 +88,7 @@ fn add_value(column: &Column, value: &Value, out: &mut Vec<u8>) -> Result<(), Al
 fn add_values(columns: &[Column], values: &[Value], out: &mut Vec<u8>) -> Result<(), AllocError>
     requires same_length { length values.now ≡ length columns.now }
     requires taken { values_refusal columns.now values.now ≡ None }
-    ensures { Adds result out.old.items out.new.items (flat_map value_spelling values.now) }
+    ensures adds { Adds result out.old.items out.new.items (flat_map value_spelling values.now) }
 {
     let mut i = 0;
     while i < columns.len() {
@@ -140,7 +140,7 @@ pub(crate) fn add_bits(values: &[Value], out: &mut Vec<u8>) -> Result<(), AllocE
 pub fn add_row(schema: &Schema, row: &Row, out: &mut Vec<u8>) -> Result<(), AllocError>
     requires schema { IsSchema schema.now }
     requires row { IsRow schema.now row.now }
-    ensures { Adds result out.old.items out.new.items (row_image row.now) }
+    ensures adds { Adds result out.old.items out.new.items (row_image row.now) }
 {
     add_bits(row.values(), out)?;
     add_values(schema.columns.as_slice(), row.values(), out)
