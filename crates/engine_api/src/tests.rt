@@ -4,11 +4,10 @@ ghost use Rattle.std.specs.Prelude.{◌≡◌, true, false, [], IfOk, OnOk, IsTr
 ghost use Rattle.std.specs.Option.{option_copied};
 ghost use Rattle.std.specs.Ordering.{is_lt};
 ghost use Rattle.disk_model.specs.Disk.{Disk};
-ghost use Rattle.sql_value.specs.declared.value.Value.TheVariants.{Null};
 ghost use Rattle.sql_value.specs.Values.{value_cmp};
 ghost use Rattle.row_format.specs.Schemas.{IsSchema};
 ghost use Rattle.engine_api.specs.declared.flags.KeyRule.TheVariants.{Allowed};
-ghost use Rattle.log_tables.specs.Keys.{key_in, has_key, row_with};
+ghost use Rattle.log_tables.specs.Keys.{key_in, row_with};
 ghost use Rattle.log_tables.specs.Tables.{table_named};
 ghost use Rattle.engine_api.specs.States.{Kind, begun_state};
 ghost use Rattle.engine_api.specs.Live.{live_schema, rows_found, row_found, is_of_type, is_key_of, IsLive, IsKeyFor};
@@ -20,8 +19,8 @@ use crate::{
     Code, Cursor, Definition, Engine, EngineFault, Flags, Gist, KeyRule, Table, Use, flush_all,
 };
 use disk_model::{MemoryStorage, Storage};
-use log_tables::{PreparedList, Rows, Tables};
-use row_format::{Column, Kind, Name, Row, Schema, Text, Value, copy_row, is_same_value};
+use log_tables::{PreparedList, Rows, Tables, has_key, value_at};
+use row_format::{Column, Kind, Name, Row, Schema, Text, Value, copy_row};
 use sql_value::value_order;
 use std::alloc::{AllocError, Global};
 use std::cmp::Ordering;
@@ -46,25 +45,6 @@ fn at<'a>(tables: &'a [Table], table: &Name, position: u32) -> Option<&'a Row>
     }
 }
 
-// The value of a row in a column, or `null` where it has no such column.
-fn value_at<'a>(row: &'a Row, column: usize, null: &'a Value) -> &'a Value
-    requires { null.now ≡ Null }
-    ensures { result.now ≡ key_in column row.now }
-{
-    match row.values().get(column) {
-        Some(value) => value,
-        None => null,
-    }
-}
-
-// Whether a row has this key.
-fn has_key(row: &Row, column: usize, key: &Value) -> bool
-    ensures { result ≡ has_key column key.now row.now }
-{
-    let null = Value::Null;
-    is_same_value(value_at(row, column, &null), key)
-}
-
 // Whether a row has a greater key.
 fn is_above(row: &Row, column: usize, key: &Value) -> bool
     ensures { result ≡ is_lt (value_cmp key.now (key_in column row.now)) }
@@ -77,7 +57,7 @@ fn is_above(row: &Row, column: usize, key: &Value) -> bool
 fn with_key<'a>(rows: &'a [Row], column: usize, key: &Value) -> Option<&'a Row>
     ensures { option_copied result ≡ row_with column key.now rows.now }
 {
-    rows.iter().find(|row| has_key(row, column, key))
+    rows.iter().find(|row| has_key(row, key, column))
 }
 
 // The first row with a greater key.

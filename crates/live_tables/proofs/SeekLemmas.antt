@@ -1,29 +1,10 @@
 -- Steps through a list of changes, one after the other, and through what is pending.
-use Rattle.std.proofs.Common.{◌≡◌, ℕ, ◌+◌, ◌≤◌, ◌<◌, List, ◌++◌, length, length-append, get_or, drop, Bool, refl, sym, ap, ◌∙◌, arith}
-use Rattle.std.specs.Prelude.{nat_eq}
-use Rattle.std.specs.Ordering.{is_eq, ordering_index}
-use Rattle.std.specs.declared.cmp.Ordering.{Ordering}
-use Rattle.std.specs.declared.cmp.Ordering.TheVariants.{Less, Equal, Greater}
+use Rattle.std.proofs.Common.{◌≡◌, ℕ, ◌+◌, ◌≤◌, ◌<◌, List, ◌++◌, length, length-append, get_or, drop, sym, ap, ◌∙◌, arith}
 use Rattle.std.proofs.lemmas.List.{drop_more, drop_all}
-use Rattle.sql_value.specs.declared.value.Value.{Value}
-use Rattle.sql_value.specs.Values.{value_cmp}
-use Rattle.sql_value.proofs.SameLemmas.{same_value-is_eq}
 use Rattle.row_format.specs.declared.change.Change.{Change}
-use Rattle.log_tables.specs.Keys.{key_in, has_key}
 use Rattle.engine_api.specs.States.{Pending, changes_in}
 use Rattle.live_tables.specs.Folds.{through}
 use Rattle.live_tables.proofs.FoldLemmas.{through_append}
-
-equal_test : (o : Ordering) → nat_eq (ordering_index o) 1 ≡ is_eq o
-equal_test Less = refl
-equal_test Equal = refl
-equal_test Greater = refl
-
--- A row has a key where its value in the key column compares as equal.
-pub key_test : (column : ℕ) (key value : Value) (row : List Value) (o : Ordering) (b : Bool) → value ≡ key_in column row → o ≡ value_cmp value key → b ≡ nat_eq (ordering_index o) 1
-    → b ≡ has_key column key row
-key_test column key value row o b is order test =
-    test ∙ equal_test o ∙ ap is_eq (order ∙ ap (λ v. value_cmp v key) is) ∙ sym (same_value-is_eq (key_in column row) key)
 
 -- What is pending from a place on is the changes there, and what is pending after them.
 pub pending_split : (pending : List Pending) (i : ℕ) (it : Pending) → i < length pending → it ≡ get_or pending i it → changes_in (drop i pending) ≡ it.changes ++ changes_in (drop (i + 1) pending)

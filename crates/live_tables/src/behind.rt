@@ -1,7 +1,6 @@
 //! The tables behind two lists of changes, of which the second is one of the transaction that is looked at.
 ghost use Rattle.std.specs.Prelude.{◌≡◌, ◌++◌, ◌<◌, ◌≤◌, ◌+◌, ◌^◌, length, true, Some};
 ghost use Rattle.std.specs.Option.{option_copied};
-ghost use Rattle.sql_value.specs.declared.value.Value.TheVariants.{Null};
 ghost use Rattle.row_format.specs.declared.change.Change.TheVariants.{Insert, Update, Delete};
 ghost use Rattle.log_tables.specs.declared.table.Table.{Table};
 ghost use Rattle.log_tables.specs.Keys.{key_in};
@@ -14,6 +13,7 @@ use crate::back::{Spot, walk_back};
 use crate::seek::{row_through, rows_through, schema_through};
 use crate::stored::Stored;
 use crate::tables;
+use log_tables::value_at;
 use row_format::{Change, Name, Row, Schema, TableMap, Value, is_same_row, is_same_value};
 
 /// Tables, and changes that are made on them, one list behind the other.
@@ -22,17 +22,6 @@ pub(crate) struct Behind<'a> {
     pub(crate) tables: &'a [Stored],
     pub(crate) done: &'a [Change],
     pub(crate) more: &'a [Change],
-}
-
-/// The value of a row in a column, or `null` where it has no such column.
-pub(crate) fn value_at<'a>(row: &'a Row, column: usize, null: &'a Value) -> &'a Value
-    requires { null.now ≡ Null }
-    ensures { result.now ≡ key_in column row.now }
-{
-    match row.values().get(column) {
-        Some(value) => value,
-        None => null,
-    }
 }
 
 // Whether two rows have the same key, or there is none.

@@ -1,14 +1,12 @@
 //! What lists of changes make of what stands under a name: of the schema, the number of rows, and the row with a key.
 ghost use Rattle.std.specs.Prelude.{◌≡◌, ◌≤◌, ◌<◌, ◌+◌, ◌^◌, length};
 ghost use Rattle.std.specs.Option.{option_copied};
-ghost use Rattle.log_tables.specs.Keys.{has_key, key_in};
 ghost use Rattle.engine_api.specs.States.{changes_in};
 ghost use Rattle.live_tables.specs.Folds.{through, schema_step, rows_step, has, replaced, row_step};
 
 use crate::pending::Open;
+use log_tables::has_key;
 use row_format::{Change, Name, Row, Schema, Value};
-use sql_value::value_order;
-use std::cmp::Ordering;
 
 // The schema under a name after a change, where this was it before.
 fn schema_step<'a>(change: &'a Change, name: &Name, found: Option<&'a Schema>) -> Option<&'a Schema>
@@ -120,22 +118,12 @@ pub(crate) fn rows_by(pending: &[Open], name: &Name, count: u64) -> u64
     rows
 }
 
-// Whether a row has this key.
-fn has_key(row: &Row, column: usize, key: &Value) -> bool
-    ensures { result ≡ has_key column key.now row.now }
-{
-    match row.values().get(column) {
-        Some(found) => value_order(found, key) == Ordering::Equal,
-        None => value_order(&Value::Null, key) == Ordering::Equal,
-    }
-}
-
 // Whether there is a row, and it has this key.
 fn has(row: Option<&Row>, column: usize, key: &Value) -> bool
     ensures { result ≡ has column key.now (option_copied row.entry) }
 {
     match row {
-        Some(row) => has_key(row, column, key),
+        Some(row) => has_key(row, key, column),
         None => false,
     }
 }

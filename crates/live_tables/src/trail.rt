@@ -11,13 +11,13 @@ ghost use Rattle.live_tables.specs.Folds.{Applied};
 ghost use Rattle.live_tables.specs.Places.{one_below, below, goes_at, stands_at, update_moves, found_behind, Makes, Tells, WalksBack};
 
 use crate::back::is_of;
-use crate::behind::value_at;
 use crate::below::{below_by, below_through, one_below};
 use crate::moves::{Moves, new_row, stood};
 use crate::pending::Open;
 use crate::seek::{rows_by, rows_through};
 use crate::stored::Stored;
 use crate::tables;
+use log_tables::value_at;
 use row_format::{Change, Name, Row, Value};
 use std::marker::Model;
 

@@ -5,6 +5,7 @@
 #![tactic(auto)]
 
 mod gist;
+mod keys;
 mod laws;
 mod plain;
 mod table;
@@ -12,6 +13,7 @@ mod table;
 mod tests;
 
 pub use gist::{Gist, Prepared, PreparedList};
+pub use keys::{has_key, value_at};
 pub use laws::{installed_goes_on, log_goes_on, no_name_twice, other_parts_stay, part_goes_on};
 pub use plain::tables_of;
 pub use table::{Definition, Rows, Table, Tables};

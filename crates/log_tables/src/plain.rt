@@ -1,16 +1,14 @@
 //! The tables of a log in the simplest way: a plain program beside the definition, for tests.
 ghost use Rattle.std.specs.Prelude.{◌≡◌, OnOk, IfOk, is_some, unwrap_or, Some};
 ghost use Rattle.std.specs.Option.{option_copied};
-ghost use Rattle.sql_value.specs.declared.value.Value.TheVariants.{Null};
 ghost use Rattle.row_format.specs.declared.change.Change.TheVariants.{Create, Drop, Insert, Update, Delete};
-ghost use Rattle.log_tables.specs.Keys.{key_in, has_key, row_with, without_key, place_above, is_row, inserted, deleted, updated};
+ghost use Rattle.log_tables.specs.Keys.{key_in, row_with, without_key, place_above, is_row, inserted, deleted, updated};
 ghost use Rattle.log_tables.specs.Tables.{place_named};
 ghost use Rattle.log_tables.specs.Changes.{after_change, with_rows, rows_after, after_changes, tables_after};
 
+use crate::keys::{has_key, value_at};
 use crate::{Definition, Rows, Table, Tables};
-use row_format::{
-    Change, Changes, Name, Row, Schema, TableMap, Transaction, Value, is_same_row, is_same_value,
-};
+use row_format::{Change, Changes, Name, Row, Schema, TableMap, Transaction, Value, is_same_row};
 use sql_value::value_order;
 use std::alloc::{AllocError, Global};
 use std::cmp::Ordering;
@@ -50,25 +48,6 @@ fn create(
         tables.push(Table { definition, rows })?;
     }
     Ok(())
-}
-
-// The value of a row in a column, or `null` where it has no such column.
-fn value_at<'a>(row: &'a Row, column: usize, null: &'a Value) -> &'a Value
-    requires { null.now ≡ Null }
-    ensures { result.now ≡ key_in column row.now }
-{
-    match row.values().get(column) {
-        Some(value) => value,
-        None => null,
-    }
-}
-
-// Whether this row has this key.
-fn has_key(row: &Row, key: &Value, column: usize) -> bool
-    ensures { result ≡ has_key column key.now row.now }
-{
-    let null = Value::Null;
-    is_same_value(value_at(row, column, &null), key)
 }
 
 // The first row that has this key.
