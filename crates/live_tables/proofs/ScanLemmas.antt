@@ -1,5 +1,5 @@
 -- The rows of a live table by place, and by key.
-use Rattle.std.proofs.Common.{◌≡◌, ℕ, ◌+◌, List, ◌++◌, Option, Some, None, Bool, cond, is_some, refl, sym, ap, subst, ◌∙◌}
+use Rattle.std.proofs.Common.{◌≡◌, ℕ, ◌+◌, List, ◌++◌, Option, Some, None, Bool, cond, is_some, sym, ap, subst, ◌∙◌}
 use Rattle.std.specs.Prelude.{slice_get, option_map}
 use Rattle.sql_value.specs.declared.value.Value.{Value}
 use Rattle.row_format.specs.declared.change.Change.{Change}
@@ -10,11 +10,11 @@ use Rattle.log_tables.specs.Tables.{table_named}
 use Rattle.log_tables.specs.Changes.{after_changes}
 use Rattle.log_tables.proofs.FoldLemmas.{after_changes-append}
 use Rattle.engine_api.specs.States.{EngineState, Pending, changes_in, live_tables}
-use Rattle.engine_api.specs.Live.{schema_found, rows_found, row_at, row_found, live_schema, live_rows, live_row}
+use Rattle.engine_api.specs.Live.{rows_found, row_at, row_found, live_rows, live_row}
 use Rattle.engine_api.specs.Scans.{row_above, above_found, live_above}
 use Rattle.live_tables.specs.Folds.{AreMade, Applied, row_in, key_found}
 use Rattle.live_tables.specs.Live.{state_of, AreSound}
-use Rattle.live_tables.specs.Places.{below, found_behind, key_of, Tells, WalksBack}
+use Rattle.live_tables.specs.Places.{below, found_behind, Tells, WalksBack}
 use Rattle.live_tables.proofs.FitLemmas.{both_apply}
 use Rattle.live_tables.proofs.MadeLemmas.{IsInOrder, all_made, found_in_order}
 use Rattle.live_tables.proofs.BelowLemmas.{above_at}
@@ -40,20 +40,17 @@ pub found_live : (n : List ℕ) (ts : List Table) (done : List Change) (left : L
     → found_behind n ts (done ++ changes_in ps) ≡ table_named n (live_tables state)
 found_live n ts done left ps last state is = ap (table_named n) (after_changes-append done (changes_in ps) ts) ∙ ap (λ s. table_named n (live_tables s)) is
 
-key_there : (o : Option Table) → key_found o ≡ key_of (schema_found o)
-key_there None = refl
-key_there (Some t) = refl
-
 -- The row that is told of a place is the live one.
 pub row_live : (n : List ℕ) (ts : List Table) (done : List Change) (left : List Prepared) (ps : List Pending) (last : ℕ) (state : EngineState) (key : Option ℕ) (place : ℕ) (row : Option (List Value))
-    → AreSound ts done left ps → state_of ts done left ps last ≡ state → key ≡ key_of (live_schema n state) → Tells n ts (done ++ changes_in ps) key place row → row ≡ slice_get (live_rows n state) place
+    → AreSound ts done left ps → state_of ts done left ps last ≡ state
+    → key ≡ key_found (table_named n (live_tables state)) → Tells n ts (done ++ changes_in ps) key place row → row ≡ slice_get (live_rows n state) place
 row_live n ts done left ps last state key place row sound is keyed tells =
     let found = found_live n ts done left ps last state is in
-    let same_key = ap key_found found ∙ key_there (table_named n (live_tables state)) ∙ sym keyed in
+    let same_key = ap key_found found ∙ sym keyed in
     sym (tells (whole_applied ts done left ps sound) same_key) ∙ ap (row_in place) found
 
 -- the row above a key of what was found
-above_of : (o : Option Table) (column : ℕ) (key : Value) (place : ℕ) → Some column ≡ key_of (schema_found o) → IsInOrder o
+above_of : (o : Option Table) (column : ℕ) (key : Value) (place : ℕ) → Some column ≡ key_found o → IsInOrder o
     → place ≡ below column key (rows_found o) + cond (is_some (row_found o key)) 1 0 → slice_get (rows_found o) place ≡ above_found o key
 above_of None column key place keyed ordered at = absurd (never keyed)
   where
@@ -66,7 +63,7 @@ above_of (Some t) column key place keyed ordered at =
 
 -- So many rows are below a key, and it has a row or none: there stands the row of the least key above it.
 pub above_live : (n : List ℕ) (ts : List Table) (done : List Change) (left : List Prepared) (ps : List Pending) (last : ℕ) (state : EngineState) (column : ℕ) (key : Value) (low place : ℕ) (has : Bool)
-    → AreSound ts done left ps → state_of ts done left ps last ≡ state → Some column ≡ key_of (live_schema n state)
+    → AreSound ts done left ps → state_of ts done left ps last ≡ state → Some column ≡ key_found (table_named n (live_tables state))
     → (Applied ts (done ++ changes_in ps) → low ≡ below column key (rows_found (found_behind n ts (done ++ changes_in ps))))
     → has ≡ is_some (live_row n key state) → place ≡ low + cond has 1 0 → slice_get (live_rows n state) place ≡ live_above n key state
 above_live n ts done left ps last state column key low place has sound is keyed lows has_is at =

@@ -1,7 +1,6 @@
 -- Where a row change takes a row out of a table, and where it puts one in. (This project.)
 use Rattle.std.specs.Prelude.{◌≡◌, ◌<◌, ◌≤◌, ◌+◌, ◌-◌, ℕ, List, length, Option, Some, None, cond, is_some, sum_by, insert, remove}
 use Rattle.sql_value.specs.declared.value.Value.{Value}
-use Rattle.row_format.specs.declared.schema.Schema.{Schema}
 use Rattle.row_format.specs.declared.change.Change.{Change}
 use Rattle.row_format.specs.declared.change.Change.TheVariants.{Drop, Insert, Update, Delete}
 use Rattle.log_tables.specs.declared.table.Table.{Table}
@@ -42,11 +41,12 @@ abbrev pub stands_at : Option ℕ → ℕ → List Value → List (List Value) �
 stands_at None place row rows = place
 stands_at (Some column) place row rows = below column (key_in column row) rows
 
--- where an Update takes a row out, and where it puts one in then
+-- where an Update puts a row in, after it took one out
 abbrev pub update_to : Option ℕ → ℕ → List Value → List Value → List (List Value) → ℕ
 update_to None place before after rows = place
 update_to (Some column) place before after rows = below column (key_in column after) rows - one_below column (key_in column after) before
 
+-- where an Update takes a row out, and where it puts one in
 abbrev pub update_moves : Option ℕ → ℕ → List Value → List Value → List (List Value) → Moves
 update_moves key place before after rows = record { from = Some (stands_at key place before rows); to = Some (update_to key place before after rows) }
 
@@ -80,11 +80,6 @@ pub record AreWithin (moves : Moves) (row : Option (List Value)) (rows : List (L
 pub record Makes (moves : Moves) (change : Change) (table : Table) : Type 0 where
   pub rows : rows_after change table ≡ Some (edited moves (new_row change) table.rows)
   pub within : AreWithin moves (new_row change) table.rows
-
--- the key column of a schema that was found, where it has one
-abbrev pub key_of : Option Schema → Option ℕ
-key_of None = None
-key_of (Some schema) = schema.key
 
 -- tables, and changes behind them
 pub record Track : Type 0 where

@@ -4,6 +4,7 @@ ghost use Rattle.engine_api.specs.States.{changes_in};
 ghost use Rattle.live_tables.specs.Folds.{through};
 ghost use Rattle.live_tables.specs.Places.{one_below, sum_step};
 
+use crate::back::is_of;
 use crate::pending::Open;
 use crate::stored::is_below;
 use row_format::{Change, Name, Row, Value};
@@ -22,36 +23,16 @@ fn below_step(change: &Change, name: &Name, column: usize, key: &Value, count: u
     ensures value { result ≡ sum_step (one_below column key.now) name.now change.now count }
     ensures within { result ≤ count + 1 }
 {
+    if !is_of(change, name) {
+        return count;
+    }
     match change {
-        Change::Insert { map, row } => {
-            if map.table.is_same(name) {
-                count + one_below(row, column, key)
-            } else {
-                count
-            }
+        Change::Drop { .. } => 0,
+        Change::Insert { row, .. } => count + one_below(row, column, key),
+        Change::Update { before, after, .. } => {
+            (count + one_below(after, column, key)).saturating_sub(one_below(before, column, key))
         }
-        Change::Update {
-            map,
-            before,
-            after,
-            ..
-        } => {
-            if map.table.is_same(name) {
-                (count + one_below(after, column, key)).saturating_sub(one_below(
-                    before, column, key,
-                ))
-            } else {
-                count
-            }
-        }
-        Change::Delete { map, before, .. } => {
-            if map.table.is_same(name) {
-                count.saturating_sub(one_below(before, column, key))
-            } else {
-                count
-            }
-        }
-        Change::Drop { table } => { if table.is_same(name) { 0 } else { count } }
+        Change::Delete { before, .. } => count.saturating_sub(one_below(before, column, key)),
         _ => count,
     }
 }

@@ -122,7 +122,7 @@ pub(crate) fn add_change(
 pub(crate) fn prepare(pending: &mut Vec<Open>, alloc: Global, txn: u32, xid: u64)
     requires distinct { AreDistinct pending.old.items }
     requires room { vec_len pending.old < vec_capacity pending.old }
-    ensures { pending.new.items ≡ without_txn txn pending.old.items ++ (record {
+    ensures items { pending.new.items ≡ without_txn txn pending.old.items ++ (record {
       txn = txn;
       under = Some xid;
       changes = changes_by txn pending.old.items;

@@ -1,10 +1,11 @@
 //! The rows of a live table by place, and one after the other by key.
 ghost use Rattle.std.specs.Prelude.{◌≡◌, ◌<◌, ◌^◌, slice_get, IfOk};
 ghost use Rattle.std.specs.Option.{option_copied};
+ghost use Rattle.log_tables.specs.Tables.{table_named};
+ghost use Rattle.engine_api.specs.States.{live_tables};
 ghost use Rattle.engine_api.specs.Live.{live_rows};
 ghost use Rattle.engine_api.specs.Scans.{live_above};
-ghost use Rattle.engine_api.specs.Live.{live_schema};
-ghost use Rattle.live_tables.specs.Places.{key_of};
+ghost use Rattle.live_tables.specs.Folds.{key_found};
 
 use crate::trail::{Trail, walk_opens};
 use crate::{LiveTables, tables};
@@ -17,7 +18,7 @@ const MOST_ROWS: usize = 4_611_686_018_427_387_904;
 impl LiveTables {
     // The key column of the live table of this name, where it has one.
     fn key(&self, table: &Name) -> Option<u8>
-        ensures { result ≡ key_of (live_schema table.now self.now.state) }
+        ensures { result ≡ key_found (table_named table.now (live_tables self.now.state)) }
     {
         match self.schema(table) {
             Some(schema) => schema.key,

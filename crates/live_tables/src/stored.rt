@@ -169,7 +169,7 @@ fn place_before(key: Option<u8>, rows: &[Row], place: u32, before: &Row) -> Opti
 fn insert_reserved(rows: &mut Vec<Row>, i: usize, row: Row)
     requires within { i ≤ vec_len rows.old }
     requires room { vec_len rows.old < vec_capacity rows.old }
-    ensures { rows.new.items ≡ insert rows.old.items i row }
+    ensures items { rows.new.items ≡ insert rows.old.items i row }
 {
     match rows.insert(i, row) {
         Ok(()) => {}

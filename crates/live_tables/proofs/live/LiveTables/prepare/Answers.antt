@@ -10,8 +10,8 @@ invariant_of-self c =
     let is = ap (λ (l : Live). l.state) c.self.view_is in
     let sound = sound_under c.args.txn c.args.xid it.last it.tables.items it.done.items it.left.items it.pending.items c.args.self.now.state c.self.invariant.0 is c.requires.unprepared c.requires.fresh in
     let counted = counted_under c.args.txn c.args.xid it.tables.items it.done.items it.left.items it.pending.items it.committed it.opened it.waits it.waiting c.self.invariant.0.distinct c.self.invariant.1 in (
-      subst (λ (ps : List Pending). AreSound it.tables.items it.done.items it.left.items ps) (sym c.prepare.ensures) sound,
-      subst (λ (ps : List Pending). AreCounted it.tables.items it.done.items it.left.items ps it.committed it.opened it.waits it.waiting) (sym c.prepare.ensures) counted,
+      subst (λ (ps : List Pending). AreSound it.tables.items it.done.items it.left.items ps) (sym c.prepare.ensures.items) sound,
+      subst (λ (ps : List Pending). AreCounted it.tables.items it.done.items it.left.items ps it.committed it.opened it.waits it.waiting) (sym c.prepare.ensures.items) counted,
       c.self.invariant.2,
     )
 
@@ -19,5 +19,5 @@ pub returns : goal.returns
 returns c =
     let it = c.self.inside in
     let is = ap (λ (l : Live). l.state) c.self.view_is in
-    ap (λ (ps : List Pending). state_of it.tables.items it.done.items it.left.items ps it.last) c.prepare.ensures
+    ap (λ (ps : List Pending). state_of it.tables.items it.done.items it.left.items ps it.last) c.prepare.ensures.items
     ∙ state_under c.args.txn c.args.xid it.last it.tables.items it.done.items it.left.items it.pending.items c.args.self.now.state c.self.invariant.0.distinct is c.requires.unprepared
