@@ -3,6 +3,8 @@
 //! It stands on `row_store`. It is no part of the server.
 #![tactic(auto)]
 
+ghost use Rattle.std.specs.Prelude.{◌≡◌, ◌<◌, suc, length, OnOk, IfOk};
+
 use row_format::{Column, Columns, Kind, Name, Row, Schema, Value};
 use row_store::RowTable;
 use std::alloc::{AllocError, Global};
@@ -21,7 +23,9 @@ fn main(rt: HostRuntime) -> io::Result<()> {
 }
 
 // A table of one number, its key, with a row for each key; how many rows it then has.
-fn filled(alloc: Global, in_order: bool) -> Result<usize, AllocError> {
+fn filled(alloc: Global, in_order: bool) -> Result<usize, AllocError>
+    ensures rows { IfOk result (λ rows. rows ≡ 60000) }
+{
     let Ok(name) = Name::new([b'k'].to_vec(alloc)?) else {
         return Err(AllocError);
     };
@@ -52,15 +56,34 @@ fn filled(alloc: Global, in_order: bool) -> Result<usize, AllocError> {
     Ok(table.len())
 }
 
-// Adds the row of a key.
-fn add(table: &mut RowTable, alloc: Global, key: i64) -> Result<(), AllocError> {
-    let mut values = Vec::new(alloc);
-    values.push(Value::Int(key))?;
-    if table.spare() == 0 {
-        table.reserve(1_024)?;
-    }
-    if table.insert(Row::new(values)).is_ok() {
+// Makes room for rows, where there is none.
+fn make_room(table: &mut RowTable) -> Result<(), AllocError>
+    ensures rows { table.new.rows ≡ table.old.rows }
+    ensures room { OnOk result (0 < table.new.spare) }
+{
+    if table.spare() > 0 {
         return Ok(());
     }
-    Err(AllocError)
+    table.reserve(1_024)
+}
+
+// Adds a row whose key is not there yet.
+fn put(table: &mut RowTable, row: Row) -> Result<(), AllocError>
+    requires room { 0 < table.old.spare }
+    ensures one_more { OnOk result (length table.new.rows ≡ suc (length table.old.rows)) }
+{
+    let Ok(_) = table.insert(row) else {
+        return Err(AllocError);
+    };
+    Ok(())
+}
+
+// Adds the row of a key that is not there yet.
+fn add(table: &mut RowTable, alloc: Global, key: i64) -> Result<(), AllocError>
+    ensures one_more { OnOk result (length table.new.rows ≡ suc (length table.old.rows)) }
+{
+    let mut values = Vec::new(alloc);
+    values.push(Value::Int(key))?;
+    make_room(table)?;
+    put(table, Row::new(values))
 }
