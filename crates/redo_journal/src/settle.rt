@@ -32,7 +32,7 @@ pub(crate) fn cut_torn(
         → len ≤ length (contents (disk volume.old) file) }
     requires size { IsTrue (disk volume.old).told
         → size ≡ length (contents (disk volume.old) file) }
-    ensures { Changes file (CutTo len) result (disk volume.old) (disk volume.new) }
+    ensures changes { Changes file (CutTo len) result (disk volume.old) (disk volume.new) }
 {
     if len < size {
         cut_synced(volume, file, len)

@@ -41,7 +41,7 @@ fn take_next(
 ) -> Result<Next, AllocError>
     requires follows { Follows index.old scan.old.records.items }
     requires fit { AllFit header_len start scan.old.records.items }
-    ensures { IfOk result (Found scan.old scan.new index.new bytes.now) }
+    ensures found { IfOk result (Found scan.old scan.new index.new bytes.now) }
 {
     let Some(frame) = frame_at(bytes, scan.len, scan.crc) else {
         return Ok(Next::NoFrame);
@@ -106,7 +106,7 @@ pub(crate) fn take_whole(
     requires follows { Follows index.old scan.old.records.items }
     requires fit { AllFit header_len start scan.old.records.items }
     requires len { scan.old.len ≡ end_of_records header_len scan.old.records.items }
-    ensures { IfOk result (Walks scan.old scan.new index.new bytes.now is_last) }
+    ensures walks { IfOk result (Walks scan.old scan.new index.new bytes.now is_last) }
 {
     let mut rest = bytes;
     loop {

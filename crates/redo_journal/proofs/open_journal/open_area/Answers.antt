@@ -27,7 +27,7 @@ cut_torn-requires-clause-size g c =
 pub returns-in_err-cut_torn-clause-any_moment : goal.returns-in_err-cut_torn-clause-any_moment
 returns-in_err-cut_torn-clause-any_moment g c = λ wanted told found.
     let read = area_was_read _ _ _ _ _ _ _ _ _ _ _ c.file-file.ensures c.requires.found c.read_area.ensures.looks c.len.ensures.0 c.in_ok-size.ensures.1 c.area_checksum.ensures c.in_ok-scan.ensures.reached c.in_ok-scan.ensures.read in
-    torn_safe _ _ _ _ _ _ _ _ _ _ _ _ read c.in_ok-settle_both.ensures _ _ _ c.from.ensures c.cut_torn.ensures wanted told (found_side wanted _ _ c.args.found found)
+    torn_safe _ _ _ _ _ _ _ _ _ _ _ _ read c.in_ok-settle_both.ensures _ _ _ c.from.ensures c.cut_torn.ensures.changes wanted told (found_side wanted _ _ c.args.found found)
 
 pub invariant_of-area : goal.invariant_of-area
 invariant_of-area g c =
@@ -37,9 +37,9 @@ invariant_of-area g c =
 pub returns-clause-opened : goal.returns-clause-opened
 returns-clause-opened g c = λ wanted told found.
     let read = area_was_read _ _ _ _ _ _ _ _ _ _ _ c.file-file.ensures c.requires.found c.read_area.ensures.looks c.len.ensures.0 c.in_ok-size.ensures.1 c.area_checksum.ensures c.in_ok-scan.ensures.reached c.in_ok-scan.ensures.read in
-    area_opens _ _ _ _ _ _ _ _ _ _ _ _ read c.in_ok-settle_both.ensures _ _ _ _ _ c.from.ensures c.in_ok-cut_torn.ensures refl refl refl refl refl refl (c.len-2.ensures ∙ c.in_ok-scan.scan.records.ok.0) wanted told (found_side wanted _ _ c.args.found found)
+    area_opens _ _ _ _ _ _ _ _ _ _ _ _ read c.in_ok-settle_both.ensures _ _ _ _ _ c.from.ensures c.in_ok-cut_torn.ensures.changes refl refl refl refl refl refl (c.len-2.ensures ∙ c.in_ok-scan.scan.records.ok.0) wanted told (found_side wanted _ _ c.args.found found)
 
 pub returns-clause-any_moment : goal.returns-clause-any_moment
 returns-clause-any_moment g c = λ wanted told found.
     let read = area_was_read _ _ _ _ _ _ _ _ _ _ _ c.file-file.ensures c.requires.found c.read_area.ensures.looks c.len.ensures.0 c.in_ok-size.ensures.1 c.area_checksum.ensures c.in_ok-scan.ensures.reached c.in_ok-scan.ensures.read in
-    torn_safe _ _ _ _ _ _ _ _ _ _ _ _ read c.in_ok-settle_both.ensures _ _ _ c.from.ensures c.cut_torn.ensures wanted told (found_side wanted _ _ c.args.found found)
+    torn_safe _ _ _ _ _ _ _ _ _ _ _ _ read c.in_ok-settle_both.ensures _ _ _ c.from.ensures c.cut_torn.ensures.changes wanted told (found_side wanted _ _ c.args.found found)

@@ -33,12 +33,12 @@ pub returns-in_default-clause-looks : goal.returns-in_default-clause-looks
 returns-in_default-clause-looks g c = looks_more _ _ _ _ _ c.loop-scan.invariant.looks c.read_piece.ensures.called
 
 pub returns-in_default-clause-reached : goal.returns-in_default-clause-reached
-returns-in_default-clause-reached g c = reached_more _ _ _ _ _ (c.loop-scan.invariant.reading).reached (c.in_ok-needed.ensures).walked
+returns-in_default-clause-reached g c = reached_more _ _ _ _ _ (c.loop-scan.invariant.reading).reached c.in_ok-needed.ensures.walks.walked
 
 pub returns-in_default-clause-read : goal.returns-in_default-clause-read
 returns-in_default-clause-read g c =
     reading_end _ _ _ _ _ _ _ _ _ _ _ _ _ _ c.loop-scan.invariant.looks c.loop-scan.invariant.reading refl
-    (piece_is _ _ _ _ _ _ _ _ _ _ c.in_ok-n.ensures.value c.read_piece.ensures.len c.deref.ensures.value (omega (arith, c.len.ensures)) refl refl) c.in_ok-needed.ensures c.in_default.is
+    (piece_is _ _ _ _ _ _ _ _ _ _ c.in_ok-n.ensures.value c.read_piece.ensures.len c.deref.ensures.value (omega (arith, c.len.ensures)) refl refl) c.in_ok-needed.ensures.walks c.in_default.is
 
 pub returns-in_default-clause-device : goal.returns-in_default-clause-device
 returns-in_default-clause-device g c =
@@ -52,19 +52,19 @@ pub returns-then-not-branch-clause-looks : goal.returns-then-not-branch-clause-l
 returns-then-not-branch-clause-looks g c = looks_both _ _ _ (looks_more _ _ _ _ _ c.loop-scan.invariant.looks c.read_piece.ensures.called) c.grow.ensures.looks
 
 pub returns-then-not-branch-clause-reached : goal.returns-then-not-branch-clause-reached
-returns-then-not-branch-clause-reached g c = reached_more _ _ _ _ _ (c.loop-scan.invariant.reading).reached (c.in_ok-needed.ensures).walked
+returns-then-not-branch-clause-reached g c = reached_more _ _ _ _ _ (c.loop-scan.invariant.reading).reached c.in_ok-needed.ensures.walks.walked
 
 pub returns-then-not-branch-clause-read : goal.returns-then-not-branch-clause-read
 returns-then-not-branch-clause-read g c = λ is_told.
     let looks = looks_more _ _ _ _ _ c.loop-scan.invariant.looks c.read_piece.ensures.called in
     reading_short _ _ _ _ _ _ _ _ _ _ _ _ _ _ _ _ c.loop-scan.invariant.looks looks c.loop-scan.invariant.reading refl
-    (piece_is _ _ _ _ _ _ _ _ _ _ c.in_ok-n.ensures.value c.read_piece.ensures.len c.deref.ensures.value (omega (arith, c.len.ensures)) refl refl) c.in_ok-needed.ensures c.in-Some.is is_told
+    (piece_is _ _ _ _ _ _ _ _ _ _ c.in_ok-n.ensures.value c.read_piece.ensures.len c.deref.ensures.value (omega (arith, c.len.ensures)) refl refl) c.in_ok-needed.ensures.walks c.in-Some.is is_told
     (c.in_ok-grow.ensures.short (looks_told _ _ looks is_told) c.if-not-branch.true)
 
 pub loop-scan-smaller : goal.loop-scan-smaller
 loop-scan-smaller g c =
-    let step = progress _ _ _ _ _ _ _ c.in_ok-needed.ensures c.in-Some.is in
-    let within = reached_within _ _ (reached_more _ _ _ _ _ (c.loop-scan.invariant.reading).reached (c.in_ok-needed.ensures).walked) in
+    let step = progress _ _ _ _ _ _ _ c.in_ok-needed.ensures.walks c.in-Some.is in
+    let within = reached_within _ _ (reached_more _ _ _ _ _ (c.loop-scan.invariant.reading).reached c.in_ok-needed.ensures.walks.walked) in
     let size : c.len.result ≡ length c.deref.result.now = omega (arith, c.len.ensures, ap length c.deref.ensures.value) in
     let held : length c.deref.result.now ≡ length c.loop-scan.piece.items = ap length c.deref.ensures.value ∙ c.read_piece.ensures.len in
     let all = full c.in_ok-n.n c.len.result c.deref.result.now step.0 (omega (arith, c.in_ok-n.ensures.count, size, held)) size in
@@ -73,13 +73,13 @@ loop-scan-smaller g c =
 
 pub loop-scan-preserved : goal.loop-scan-preserved
 loop-scan-preserved g c =
-    let step = progress _ _ _ _ _ _ _ c.in_ok-needed.ensures c.in-Some.is in
+    let step = progress _ _ _ _ _ _ _ c.in_ok-needed.ensures.walks c.in-Some.is in
     let grown = c.in_ok-grow.ensures.grown c.if-not-branch.false in
     record {
       looks = looks_both _ _ _ (looks_more _ _ _ _ _ c.loop-scan.invariant.looks c.read_piece.ensures.called) c.grow.ensures.looks;
       reading = reading_more _ _ _ _ _ _ _ _ _ _ _ _ _ _ c.loop-scan.invariant.looks c.loop-scan.invariant.reading refl
-          (piece_is _ _ _ _ _ _ _ _ _ _ c.in_ok-n.ensures.value c.read_piece.ensures.len c.deref.ensures.value (omega (arith, c.len.ensures)) refl refl) c.in_ok-needed.ensures;
-      follows = follows_on _ _ _ _ _ _ _ c.in_ok-needed.ensures c.in-Some.is;
+          (piece_is _ _ _ _ _ _ _ _ _ _ c.in_ok-n.ensures.value c.read_piece.ensures.len c.deref.ensures.value (omega (arith, c.len.ensures)) refl refl) c.in_ok-needed.ensures.walks;
+      follows = follows_on _ _ _ _ _ _ _ c.in_ok-needed.ensures.walks c.in-Some.is;
       small = omega (arith, grown, step.1, c.loop-scan.invariant.small, c.read_piece.ensures.len);
     }
 

@@ -15,7 +15,7 @@ returns-in_default-2 c =
     let body = slice_range c.args.bytes.now frame.body_start frame.body_end in
     let none : TellsNone (told c.args.scan.now.records.items) (event_with frame.kind body) =
     subst (λ (l : List Record). TellsNone (told l) (event_with frame.kind body)) c.deref.ensures.value (none_is _ _ c.in_default-2.is c.in_ok-record.ensures.none) in
-    (record { records = refl; len = refl; crc = refl }, no_record _ _ _ _ body frame c.in-Some.ensures.some refl none)
+    record { found = (record { records = refl; len = refl; crc = refl }, no_record _ _ _ _ body frame c.in-Some.ensures.some refl none) }
 
 pub returns-then-not-branch : goal.returns-then-not-branch
 returns-then-not-branch c =
@@ -27,10 +27,13 @@ returns-then-not-branch c =
     subst (λ (l : List Record). Tells (told l) (event_with frame.kind body) it) c.deref.ensures.value (some_is _ _ _ c.in-Some-2.is c.in_ok-record.ensures.found) in
     let pushed = c.in_ok-push.ensures.items in
     let is_offered : IsOffered c.args.index.now c.deref-2.result.now records it (told records) c.args.scan.now.len frame.end = offered _ _ _ _ _ _ body frame it c.in-Some.ensures.some refl (c.deref-2.ensures.value ∙ pushed) c.requires.follows tells in
-    let left = taken_off records _ _ it _ pushed (omega arith) c.pop.ensures.rest in (
-      record { records = left; len = refl; crc = refl },
-      no_fit _ _ records _ body frame it c.in-Some.ensures.some refl c.requires.fit tells (c.in_ok-take.ensures.unfit records it (told records) c.args.scan.now.len is_offered c.if-not-branch.true),
-    )
+    let left = taken_off records _ _ it _ pushed (omega arith) c.pop.ensures.rest in
+    record {
+      found = (
+        record { records = left; len = refl; crc = refl },
+        no_fit _ _ records _ body frame it c.in-Some.ensures.some refl c.requires.fit tells (c.in_ok-take.ensures.unfit records it (told records) c.args.scan.now.len is_offered c.if-not-branch.true),
+      );
+    }
 
 pub returns : goal.returns
 returns c =
@@ -44,4 +47,4 @@ returns c =
     let is_offered : IsOffered c.args.index.now c.deref-2.result.now records it (told records) c.args.scan.now.len frame.end = offered _ _ _ _ _ _ body frame it c.in-Some.ensures.some refl (c.deref-2.ensures.value ∙ pushed) c.requires.follows tells in
     let taken = c.in_ok-take.ensures.fits records it (told records) c.args.scan.now.len is_offered c.if-not-branch.false in
     let follows = subst (λ (l : List Record). IsReplay c.take.new.self l (after_record it (told records))) c.deref-2.ensures.value taken.1 in
-    step_taken _ _ c.take.new.self _ body _ frame it c.in-Some.ensures.some refl tells (taken.0, follows) pushed refl refl refl
+    record { found = step_taken _ _ c.take.new.self _ body _ frame it c.in-Some.ensures.some refl tells (taken.0, follows) pushed refl refl refl }
