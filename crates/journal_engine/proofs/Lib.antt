@@ -5,6 +5,7 @@ pub mod SpeltLemmas
 pub mod CallLemmas
 pub mod WriteLemmas
 pub mod EndLemmas
+pub mod PutLemmas
 pub mod RoomLemmas
 pub mod LoadLemmas
 pub mod OpeningLemmas

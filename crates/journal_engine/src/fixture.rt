@@ -234,7 +234,8 @@ pub(crate) fn make(
     requires schema { IsSchema schema.now }
     requires ready { IsReady (kind engine.old) (state engine.old) (holds engine.old)
         (disk volume.old) }
-    ensures { IsReady (kind engine.new) (state engine.new) (holds engine.new) (disk volume.new) }
+    ensures ready { IsReady (kind engine.new) (state engine.new) (holds engine.new)
+        (disk volume.new) }
 {
     is_free(rt, engine, table);
     match engine.create(1, table, schema) {

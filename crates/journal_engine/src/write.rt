@@ -15,7 +15,8 @@ use std::alloc::Global;
 fn write(journal: &mut Journal, volume: &mut dyn Storage, entry: &Record) -> Result<(), EngineFault>
     requires fits { Admits journal.old entry.now }
     requires kept { HasFiles journal.old (disk volume.old) }
-    ensures { Writes entry.now result journal.old journal.new (disk volume.old) (disk volume.new) }
+    ensures writes { Writes entry.now result journal.old journal.new
+        (disk volume.old) (disk volume.new) }
 {
     match journal.append(volume, entry) {
         Ok(()) => {}

@@ -1,39 +1,25 @@
 -- rollback
-use Rattle.std.proofs.Common.{refl, sym, ap, subst, ◌∙◌, [], ◌∷◌, ℕ, Option, None, ◌≡◌}
+use Rattle.std.proofs.Common.{sym, ap, subst, ◌∙◌, [], ◌∷◌, ℕ, Option, None, ◌≡◌}
 use Rattle.std.proofs.lemmas.Result.{err_from_is_err_and}
-use Rattle.redo_journal.specs.declared.record.Record.TheVariants.{Rollback}
-use Rattle.engine_api.specs.States.{EngineState, xid_by, share_of, gist_without, rolled_back_state}
+use Rattle.engine_api.specs.States.{EngineState, xid_by, gist_without, rolled_back_state}
 use Rattle.journal_engine.specs.Engine.{Journaled, IsWell}
-use Rattle.journal_engine.proofs.TurnLemmas.{put_admits, put_files, turns_put, turns_not_put, put_well, turns_quiet}
-use Rattle.journal_engine.proofs.EndLemmas.{rollback_fits, prepared_there, found_prepared, rolled_gist, turns_told, held_told}
+use Rattle.journal_engine.proofs.TurnLemmas.{turns_quiet}
+use Rattle.journal_engine.proofs.EndLemmas.{turns_told, held_told}
 use Rattle.log_tables.specs.declared.gist.Gist.{Gist}
 use Rattle.journal_engine.proofs.CallLemmas.{well_next}
 use Rattle.journal_engine.proofs.SpeltLemmas.{spelt_rolled_back}
+use Rattle.journal_engine.proofs.PutLemmas.{rollback_may, may_admit, may_files, call_put, call_not_put, call_well}
 use Rattle.journal_engine.proofs.calls.JournalEngineEngine.rollback.Goals as goal
 
 pub put-requires-clause-fits : goal.put-requires-clause-fits
 put-requires-clause-fits g c =
-    let it = c.self.inside in
-    let gist = it.live.state.gist in
-    let xid = c.in-Some.xid in
-    let under = sym c.in-Some.ensures in
-    let found = found_prepared xid gist (share_of c.args.txn xid it.live.state) (c.laws.ensures.prepared c.args.txn xid under) in
-    put_admits it.first_file it.journal gist (Rollback xid) c.self.invariant.stands (rollback_fits it.journal gist xid found c.small.ensures)
-    (prepared_there it.first_file xid it.journal gist c.self.invariant.stands found)
+    let may = rollback_may _ _ c.self.view_is c.self.invariant c.args.txn c.in-Some.xid (sym c.in-Some.ensures) c.laws.ensures.prepared c.small.ensures in
+    may_admit _ _ c.self.view_is _ _ may
 
 pub put-requires-clause-kept : goal.put-requires-clause-kept
 put-requires-clause-kept g c =
-    let it = c.self.inside in
-    let gist = it.live.state.gist in
-    let xid = c.in-Some.xid in
-    let under = sym c.in-Some.ensures in
-    let found = found_prepared xid gist (share_of c.args.txn xid it.live.state) (c.laws.ensures.prepared c.args.txn xid under) in
-    let fits = rollback_fits it.journal gist xid found c.small.ensures in
-    let next = rolled_back_state c.args.txn in
-    let e : Journaled = record { name = it.name; soname = it.soname; first_file = it.first_file; journal = it.journal; live = it.live.state } in
-    let d = (goal.Storage-dyn g c.args.volume.now).disk c.args.volume.now.1 in
-    put_files it.first_file it.journal gist d c.self.invariant.stands (held_told e c.args.self.now c.self.view_is d c.requires.holds)
-    (prepared_there it.first_file xid it.journal gist c.self.invariant.stands found)
+    let may = rollback_may _ _ c.self.view_is c.self.invariant c.args.txn c.in-Some.xid (sym c.in-Some.ensures) c.laws.ensures.prepared c.small.ensures in
+    may_files _ _ c.self.view_is _ _ _ may c.requires.holds
 
 pub invariant_of-self : goal.invariant_of-self
 invariant_of-self g c =
@@ -61,48 +47,17 @@ returns-in_default-clause-turns g c =
 
 pub returns-in_err-put-clause-turns : goal.returns-in_err-put-clause-turns
 returns-in_err-put-clause-turns g c =
-    let it = c.self.inside in
-    let gist = it.live.state.gist in
-    let xid = c.in-Some.xid in
-    let under = sym c.in-Some.ensures in
-    let found = found_prepared xid gist (share_of c.args.txn xid it.live.state) (c.laws.ensures.prepared c.args.txn xid under) in
-    let fits = rollback_fits it.journal gist xid found c.small.ensures in
-    let next = rolled_back_state c.args.txn in
-    let e : Journaled = record { name = it.name; soname = it.soname; first_file = it.first_file; journal = it.journal; live = it.live.state } in
-    let d = (goal.Storage-dyn g c.args.volume.now).disk c.args.volume.now.1 in
+    let may = rollback_may _ _ c.self.view_is c.self.invariant c.args.txn c.in-Some.xid (sym c.in-Some.ensures) c.laws.ensures.prepared c.small.ensures in
     let p = err_from_is_err_and c.from_residual.result c.from_residual.ensures.1 in
-    rw (p.1, p.2) (turns_told e c.args.self.now c.self.view_is _ next _ _ _ _
-    (turns_not_put e (Rollback xid) c.put.new.journal c.put.new.live.state (next it.live.state) d _ c.self.invariant.stands fits (held_told e c.args.self.now c.self.view_is d c.requires.holds)
-    c.self.invariant.alone refl (rolled_gist c.args.txn xid it.live.state under) c.in_err-put.field-0.0 c.in_err-put.ensures.puts))
+    rw (p.1, p.2) (call_not_put _ _ c.self.view_is _ (rolled_back_state c.args.txn) _ _ _ _ may c.requires.holds c.in_err-put.field-0.0 c.in_err-put.ensures.puts)
 
 pub invariant_of-self-2 : goal.invariant_of-self-2
 invariant_of-self-2 g c =
-    let it = c.self.inside in
-    let gist = it.live.state.gist in
-    let xid = c.in-Some.xid in
-    let under = sym c.in-Some.ensures in
-    let found = found_prepared xid gist (share_of c.args.txn xid it.live.state) (c.laws.ensures.prepared c.args.txn xid under) in
-    let fits = rollback_fits it.journal gist xid found c.small.ensures in
-    let next = rolled_back_state c.args.txn in
-    let e : Journaled = record { name = it.name; soname = it.soname; first_file = it.first_file; journal = it.journal; live = it.live.state } in
-    let d = (goal.Storage-dyn g c.args.volume.now).disk c.args.volume.now.1 in
-    let new_is = c.rollback-2.ensures ∙ ap next c.in_ok-put.ensures.puts.same in
-    subst (λ (s : EngineState). IsWell it.first_file c.put.new.journal s) (sym new_is)
-    (put_well it.first_file (Rollback xid) c.in_ok-put.field-0 it.journal c.put.new.journal it.live.state c.put.new.live.state (next it.live.state) _ _ c.self.invariant fits c.in_ok-put.ensures.puts
-    (rolled_gist c.args.txn xid it.live.state under) refl (spelt_rolled_back c.args.txn it.live.state c.self.invariant.spelt))
+    let may = rollback_may _ _ c.self.view_is c.self.invariant c.args.txn c.in-Some.xid (sym c.in-Some.ensures) c.laws.ensures.prepared c.small.ensures in
+    call_well _ _ c.self.view_is _ _ _ _ _ _ _ may c.in_ok-put.field-0 c.in_ok-put.ensures.puts (c.rollback-2.ensures ∙ ap (rolled_back_state c.args.txn) c.in_ok-put.ensures.puts.same)
 
 pub returns-clause-turns : goal.returns-clause-turns
 returns-clause-turns g c =
-    let it = c.self.inside in
-    let gist = it.live.state.gist in
-    let xid = c.in-Some.xid in
-    let under = sym c.in-Some.ensures in
-    let found = found_prepared xid gist (share_of c.args.txn xid it.live.state) (c.laws.ensures.prepared c.args.txn xid under) in
-    let fits = rollback_fits it.journal gist xid found c.small.ensures in
+    let may = rollback_may _ _ c.self.view_is c.self.invariant c.args.txn c.in-Some.xid (sym c.in-Some.ensures) c.laws.ensures.prepared c.small.ensures in
     let next = rolled_back_state c.args.txn in
-    let e : Journaled = record { name = it.name; soname = it.soname; first_file = it.first_file; journal = it.journal; live = it.live.state } in
-    let d = (goal.Storage-dyn g c.args.volume.now).disk c.args.volume.now.1 in
-    let new_is = c.rollback-2.ensures ∙ ap next c.in_ok-put.ensures.puts.same in
-    turns_told e c.args.self.now c.self.view_is _ next _ _ _ _
-    (turns_put e (Rollback xid) c.put.new.journal c.put.new.live.state (next it.live.state) d _ c.self.invariant.stands fits (held_told e c.args.self.now c.self.view_is d c.requires.holds)
-    c.self.invariant.alone refl (rolled_gist c.args.txn xid it.live.state under) c.in_ok-put.field-0 c.rollback-2.new.self.state c.in_ok-put.ensures.puts new_is)
+    call_put _ _ c.self.view_is _ next _ _ _ _ _ may c.requires.holds c.in_ok-put.field-0 c.in_ok-put.ensures.puts (c.rollback-2.ensures ∙ ap next c.in_ok-put.ensures.puts.same)
