@@ -223,9 +223,8 @@ fn check(rt: &impl Abort, alloc: Global, script: &str) -> Result<(), Fail> {
     Ok(())
 }
 
-#[test]
-fn a_table_is_made_filled_and_read(rt: HostRuntime) -> Result<(), Fail> {
-    let script = "CREATE TABLE t (k BIGINT PRIMARY KEY, v VARCHAR(10)) ENGINE = JOURNAL
+// A table is made, filled and read.
+const TABLE_FILLED: &str = "CREATE TABLE t (k BIGINT PRIMARY KEY, v VARCHAR(10)) ENGINE = JOURNAL
 unknown engine
 INSTALL PLUGIN JOURNAL SONAME 'ha_pages.so'
 no such library
@@ -279,12 +278,14 @@ DROP TABLE t
 ok 0
 SELECT * FROM t
 no such table";
-    check(&rt, rt.alloc(), script)
-}
 
 #[test]
-fn numbers_end_at_both_ends_of_bigint(rt: HostRuntime) -> Result<(), Fail> {
-    let script = "CREATE TABLE t (k BIGINT PRIMARY KEY, n BIGINT) ENGINE = MEMORY
+fn a_table_is_made_filled_and_read(rt: HostRuntime) -> Result<(), Fail> {
+    check(&rt, rt.alloc(), TABLE_FILLED)
+}
+
+// Numbers at both ends of BIGINT, and past them.
+const ENDS_OF_BIGINT: &str = "CREATE TABLE t (k BIGINT PRIMARY KEY, n BIGINT) ENGINE = MEMORY
 ok 0
 INSERT INTO t VALUES (9223372036854775807, 1)
 ok 1
@@ -320,12 +321,14 @@ UPDATE t SET n = n + 1 WHERE k > 0
 ok 1
 SELECT n FROM t WHERE k > 0
 ok 0 | 2";
-    check(&rt, rt.alloc(), script)
-}
 
 #[test]
-fn conditions_have_three_values(rt: HostRuntime) -> Result<(), Fail> {
-    let script = "CREATE TABLE c (a BIGINT, s VARCHAR(5)) ENGINE = MEMORY
+fn numbers_end_at_both_ends_of_bigint(rt: HostRuntime) -> Result<(), Fail> {
+    check(&rt, rt.alloc(), ENDS_OF_BIGINT)
+}
+
+// Conditions that are true, false, or neither.
+const THREE_VALUES: &str = "CREATE TABLE c (a BIGINT, s VARCHAR(5)) ENGINE = MEMORY
 ok 0
 INSERT INTO c VALUES (1, 'x'), (NULL, 'y'), (3, NULL), (NULL, NULL)
 ok 4
@@ -381,13 +384,15 @@ SELECT a FROM c WHERE NOT NOT NOT a = 3
 ok 0 | 1
 SELECT a FROM c WHERE ((a = 1))
 ok 0 | 1";
-    check(&rt, rt.alloc(), script)
-}
 
 #[test]
-fn rows_are_changed_and_removed(rt: HostRuntime) -> Result<(), Fail> {
-    let script =
-        "CREATE TABLE t (k BIGINT PRIMARY KEY, v VARCHAR(3), n BIGINT NOT NULL) ENGINE = MEMORY
+fn conditions_have_three_values(rt: HostRuntime) -> Result<(), Fail> {
+    check(&rt, rt.alloc(), THREE_VALUES)
+}
+
+// Rows are changed and removed.
+const ROWS_CHANGED: &str =
+    "CREATE TABLE t (k BIGINT PRIMARY KEY, v VARCHAR(3), n BIGINT NOT NULL) ENGINE = MEMORY
 ok 0
 INSERT INTO t VALUES (1, 'a', 10), (2, 'b', 20)
 ok 2
@@ -451,12 +456,14 @@ UPDATE m SET a = a + 1
 ok 2
 SELECT * FROM m
 ok 0 | 2 | 3";
-    check(&rt, rt.alloc(), script)
-}
 
 #[test]
-fn other_texts_are_refused(rt: HostRuntime) -> Result<(), Fail> {
-    let script = "BEGIN
+fn rows_are_changed_and_removed(rt: HostRuntime) -> Result<(), Fail> {
+    check(&rt, rt.alloc(), ROWS_CHANGED)
+}
+
+// Texts that are no statement on tables.
+const OTHER_TEXTS: &str = "BEGIN
 not built
 COMMIT
 not built
@@ -478,7 +485,10 @@ SELECT * FROM t;
 no such table
 SELECT * FROM t;;
 syntax at 16";
-    check(&rt, rt.alloc(), script)
+
+#[test]
+fn other_texts_are_refused(rt: HostRuntime) -> Result<(), Fail> {
+    check(&rt, rt.alloc(), OTHER_TEXTS)
 }
 
 // So many of one byte.
@@ -556,6 +566,80 @@ fn reply(
     Ok(out)
 }
 
+// How many bytes the engine and the transaction have, a text, and its reply.
+// A row (2, 'x') has 11 bytes, and its INSERT 125 as a transaction, of which 55 are its begin and end.
+const SIZES_AND_REPLIES: [(u64, u64, &[u8], &[u8]); 19] = [
+    (16777205, 0, b"INSERT INTO t VALUES (2, 'x')", b"ok 1"),
+    (16777206, 0, b"INSERT INTO t VALUES (2, 'x')", b"table full"),
+    (
+        16777206,
+        0,
+        b"INSERT INTO t VALUES (1, 'x')",
+        b"duplicate entry",
+    ),
+    (
+        16777194,
+        0,
+        b"INSERT INTO t VALUES (2, 'x'), (3, 'x')",
+        b"ok 2",
+    ),
+    (
+        16777195,
+        0,
+        b"INSERT INTO t VALUES (2, 'x'), (3, 'x')",
+        b"table full",
+    ),
+    (
+        16777206,
+        0,
+        b"INSERT INTO t VALUES (2, 'x'), (2, 'x')",
+        b"table full",
+    ),
+    (
+        18446744073709551615,
+        0,
+        b"INSERT INTO t VALUES (2, 'x')",
+        b"table full",
+    ),
+    (
+        18446744073709551615,
+        0,
+        b"INSERT INTO n VALUES (2), (2)",
+        b"ok 2",
+    ),
+    (18446744073709551615, 0, b"SELECT * FROM n", b"ok 0"),
+    (16777216, 0, b"UPDATE t SET v = 'y'", b"ok 1"),
+    (16777216, 0, b"UPDATE t SET v = 'yy'", b"table full"),
+    (16777217, 0, b"UPDATE t SET v = 'y'", b"table full"),
+    (16777217, 0, b"UPDATE t SET v = 'x'", b"ok 0"),
+    (16777217, 0, b"DELETE FROM t", b"ok 1"),
+    (
+        16777199,
+        0,
+        b"CREATE TABLE u (k BIGINT) ENGINE = MEMORY",
+        b"ok 0",
+    ),
+    (
+        16777210,
+        0,
+        b"CREATE TABLE u (k BIGINT) ENGINE = MEMORY",
+        b"table full",
+    ),
+    (0, 1048506, b"INSERT INTO t VALUES (2, 'x')", b"ok 1"),
+    (
+        0,
+        1048507,
+        b"INSERT INTO t VALUES (2, 'x')",
+        b"transaction too large",
+    ),
+    (
+        0,
+        1048507,
+        b"INSERT INTO t VALUES (1, 'x')",
+        b"duplicate entry",
+    ),
+];
+
 #[test]
 fn engines_and_transactions_get_full(rt: HostRuntime) -> Result<(), Fail> {
     let alloc = rt.alloc();
@@ -570,79 +654,7 @@ fn engines_and_transactions_get_full(rt: HostRuntime) -> Result<(), Fail> {
             b"CREATE TABLE n (k BIGINT PRIMARY KEY) ENGINE = BLACKHOLE",
         ],
     )?;
-    // A row (2, 'x') has 11 bytes, and its INSERT 125 as a transaction, of which 55 are its begin and end.
-    let cases: [(u64, u64, &[u8], &[u8]); 19] = [
-        (16777205, 0, b"INSERT INTO t VALUES (2, 'x')", b"ok 1"),
-        (16777206, 0, b"INSERT INTO t VALUES (2, 'x')", b"table full"),
-        (
-            16777206,
-            0,
-            b"INSERT INTO t VALUES (1, 'x')",
-            b"duplicate entry",
-        ),
-        (
-            16777194,
-            0,
-            b"INSERT INTO t VALUES (2, 'x'), (3, 'x')",
-            b"ok 2",
-        ),
-        (
-            16777195,
-            0,
-            b"INSERT INTO t VALUES (2, 'x'), (3, 'x')",
-            b"table full",
-        ),
-        (
-            16777206,
-            0,
-            b"INSERT INTO t VALUES (2, 'x'), (2, 'x')",
-            b"table full",
-        ),
-        (
-            18446744073709551615,
-            0,
-            b"INSERT INTO t VALUES (2, 'x')",
-            b"table full",
-        ),
-        (
-            18446744073709551615,
-            0,
-            b"INSERT INTO n VALUES (2), (2)",
-            b"ok 2",
-        ),
-        (18446744073709551615, 0, b"SELECT * FROM n", b"ok 0"),
-        (16777216, 0, b"UPDATE t SET v = 'y'", b"ok 1"),
-        (16777216, 0, b"UPDATE t SET v = 'yy'", b"table full"),
-        (16777217, 0, b"UPDATE t SET v = 'y'", b"table full"),
-        (16777217, 0, b"UPDATE t SET v = 'x'", b"ok 0"),
-        (16777217, 0, b"DELETE FROM t", b"ok 1"),
-        (
-            16777199,
-            0,
-            b"CREATE TABLE u (k BIGINT) ENGINE = MEMORY",
-            b"ok 0",
-        ),
-        (
-            16777210,
-            0,
-            b"CREATE TABLE u (k BIGINT) ENGINE = MEMORY",
-            b"table full",
-        ),
-        (0, 1048506, b"INSERT INTO t VALUES (2, 'x')", b"ok 1"),
-        (
-            0,
-            1048507,
-            b"INSERT INTO t VALUES (2, 'x')",
-            b"transaction too large",
-        ),
-        (
-            0,
-            1048507,
-            b"INSERT INTO t VALUES (1, 'x')",
-            b"duplicate entry",
-        ),
-    ];
-    for (i, (live, open, text, wanted)) in cases.iter().enumerate() {
+    for (i, (live, open, text, wanted)) in SIZES_AND_REPLIES.iter().enumerate() {
         let sizes = Sizes {
             live: *live,
             open: *open,
