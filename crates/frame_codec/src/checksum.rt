@@ -12,7 +12,7 @@ use crate::tables::TABLES;
 fn entry(above: usize, byte: usize) -> u32
     requires above { above < 8 }
     requires byte { byte < 256 }
-    ensures { result ≡ shifted_bytes (above + 1) byte }
+    ensures value { result ≡ shifted_bytes (above + 1) byte }
 {
     TABLES[above][byte]
 }

@@ -6,5 +6,5 @@ use Rattle.frame_codec.proofs.checksum.after_byte.Goals as goal
 
 pub returns : goal.returns
 returns c =
-    byte_looked_up (bit_xor c.args.register c.from.result) c.entry.result c.entry.ensures
+    byte_looked_up (bit_xor c.args.register c.from.result) c.entry.result c.entry.ensures.value
     ∙ ap (λ n. shifted_bytes 1 (bit_xor c.args.register n)) c.from.ensures

@@ -34,4 +34,5 @@ sum_of word a b c d e f g h is_a is_b is_c is_d is_e is_f is_g is_h =
 pub returns : goal.returns
 returns c =
     sum_of c.args.word c.entry.result c.entry-2.result c.entry-3.result c.entry-4.result c.entry-5.result c.entry-6.result c.entry-7.result c.entry-8.result
-    c.entry.ensures c.entry-2.ensures c.entry-3.ensures c.entry-4.ensures c.entry-5.ensures c.entry-6.ensures c.entry-7.ensures c.entry-8.ensures
+    c.entry.ensures.value c.entry-2.ensures.value c.entry-3.ensures.value c.entry-4.ensures.value
+    c.entry-5.ensures.value c.entry-6.ensures.value c.entry-7.ensures.value c.entry-8.ensures.value

@@ -10,4 +10,4 @@ unfolding shifted_bytes
 tables_right = refl
 
 pub returns : goal.returns
-returns c = entry-right TABLES c.args.above c.args.byte tables_right c.requires.above c.requires.byte
+returns c = record { value = entry-right TABLES c.args.above c.args.byte tables_right c.requires.above c.requires.byte }
