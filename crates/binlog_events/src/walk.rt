@@ -287,7 +287,8 @@ pub(crate) fn is_complete(waiting: &Option<TableMap>) -> bool
 
 /// Adds the change that an item told, or answers the table map that it told, which now waits for its row change.
 pub(crate) fn keep(changes: &mut Vec<Change>, told: Told) -> Result<Option<TableMap>, AllocError>
-    ensures changes { OnOk result (changes.new.items ≡ changes.old.items ++ (item_of told).changes) }
+    ensures changes { OnOk result (changes.new.items
+        ≡ changes.old.items ++ (item_of told).changes) }
     ensures before { IfOk result (λ waiting.
         before_of waiting (last_map changes.new.items) ≡ (item_of told).before) }
 {
