@@ -1,0 +1,5 @@
+pub mod KeyLemmas
+pub mod FaultLemmas
+pub mod RunLemmas
+pub mod SearchLemmas
+pub mod SelectLemmas

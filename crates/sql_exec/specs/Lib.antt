@@ -1,0 +1,5 @@
+pub mod Seen
+pub mod Faults
+pub mod Found
+pub mod CarriesOut
+pub mod Selects
