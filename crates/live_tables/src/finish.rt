@@ -25,7 +25,7 @@ impl LiveTables {
         requires room { 1 ≤ self.old.spare }
         requires unprepared { is_under txn self.old.state ≡ false }
         requires fresh { is_prepared xid self.old.state.gist.prepared ≡ false }
-        ensures { self.new.state ≡ prepared_state txn xid self.old.state }
+        ensures state { self.new.state ≡ prepared_state txn xid self.old.state }
     {
         pending::prepare(&mut self.pending, self.alloc, txn, xid);
     }

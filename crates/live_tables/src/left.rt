@@ -54,7 +54,7 @@ impl LiveTables {
         requires left { IsLeft xid self.old.state }
         requires fits { (it : Left) → prepared_with xid self.old.state.gist.prepared ≡ Some it
             → all_apply it.changes self.old.state.gist.tables ≡ true }
-        ensures { (it : Left) → prepared_with xid self.old.state.gist.prepared ≡ Some it
+        ensures state { (it : Left) → prepared_with xid self.old.state.gist.prepared ≡ Some it
             → self.new.state
             ≡ with_gist (after_commit it number self.old.state.gist) self.old.state }
     {

@@ -30,14 +30,14 @@ pub invariant_of-self-2 : goal.invariant_of-self-2
 invariant_of-self-2 g c =
     let one = left_one _ _ c.self.view_is c.args.xid c.args.number _ true c.requires.left c.can_commit.ensures.left c.if-not-can_commit.false in
     let may = left_may _ _ c.self.view_is c.self.invariant c.args.xid c.args.number one.0 one.1 one.2 (omega (arith, c.ranges.xid)) (omega (arith, c.ranges.number)) in
-    let new_is = left_is c.args.xid c.args.number one.0 _ _ _ one.1 one.2 c.in_ok-put.ensures.puts.same c.commit_left.ensures in
+    let new_is = left_is c.args.xid c.args.number one.0 _ _ _ one.1 one.2 c.in_ok-put.ensures.puts.same c.commit_left.ensures.state in
     call_well _ _ c.self.view_is _ _ _ _ _ _ _ may c.in_ok-put.field-0 c.in_ok-put.ensures.puts new_is
 
 pub returns-clause-turns : goal.returns-clause-turns
 returns-clause-turns g c =
     let one = left_one _ _ c.self.view_is c.args.xid c.args.number _ true c.requires.left c.can_commit.ensures.left c.if-not-can_commit.false in
     let may = left_may _ _ c.self.view_is c.self.invariant c.args.xid c.args.number one.0 one.1 one.2 (omega (arith, c.ranges.xid)) (omega (arith, c.ranges.number)) in
-    let new_is = left_is c.args.xid c.args.number one.0 _ _ _ one.1 one.2 c.in_ok-put.ensures.puts.same c.commit_left.ensures in
+    let new_is = left_is c.args.xid c.args.number one.0 _ _ _ one.1 one.2 c.in_ok-put.ensures.puts.same c.commit_left.ensures.state in
     call_put _ _ c.self.view_is _ (resolved_state c.args.xid c.args.number) _ _ _ _ _ may c.requires.holds c.in_ok-put.field-0 c.in_ok-put.ensures.puts new_is
 
 pub returns-then-not-can_commit-clause-turns : goal.returns-then-not-can_commit-clause-turns

@@ -80,7 +80,7 @@ invariant_of-self-2 g c =
     (omega (arith, c.ranges.xid)) c.requires.fresh (omega (arith, c.len.ensures)) c.in_ok-xids.ensures c.is_past.ensures c.if-is_past.false in
     let next = prepared_state c.args.txn c.args.xid in
     call_well _ _ c.self.view_is _ _ _ _ _ _ _ may c.in_ok-put.field-0 (puts_from c.reserve.ensures.same c.in_ok-put.ensures.puts)
-    (c.prepare.ensures ∙ ap next (c.in_ok-put.ensures.puts.same ∙ c.reserve.ensures.same))
+    (c.prepare.ensures.state ∙ ap next (c.in_ok-put.ensures.puts.same ∙ c.reserve.ensures.same))
 
 pub returns-clause-turns : goal.returns-clause-turns
 returns-clause-turns g c =
@@ -88,4 +88,4 @@ returns-clause-turns g c =
     (omega (arith, c.ranges.xid)) c.requires.fresh (omega (arith, c.len.ensures)) c.in_ok-xids.ensures c.is_past.ensures c.if-is_past.false in
     let puts = puts_from c.reserve.ensures.same c.in_ok-put.ensures.puts in
     let next = prepared_state c.args.txn c.args.xid in
-    call_put _ _ c.self.view_is _ next _ _ _ _ _ may c.requires.holds c.in_ok-put.field-0 puts (c.prepare.ensures ∙ ap next puts.same)
+    call_put _ _ c.self.view_is _ next _ _ _ _ _ may c.requires.holds c.in_ok-put.field-0 puts (c.prepare.ensures.state ∙ ap next puts.same)

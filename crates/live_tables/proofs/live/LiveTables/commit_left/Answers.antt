@@ -54,10 +54,12 @@ invariant_of-self c =
 
 pub returns : goal.returns
 returns c =
-    λ p asked.
     let it = c.self.inside in
     let is = ap (λ (l : Live). l.state) c.self.view_is in
     let appended = c.append_reserved.ensures.items ∙ ap (λ l. it.done.items ++ l) c.into_changes-changes.ensures in
-    c.settle.ensures
-    ∙ left_done_state c.args.xid c.args.number it.last c.in-Some.it p it.tables.items it.done.items c.append_reserved.new.done.items it.left.items c.take_left.new.left.items it.pending.items
-    c.args.self.now.state is c.requires.left.1 (sym c.in-Some.ensures.found) appended c.in-Some.ensures.rest asked
+    record {
+      state = λ p asked.
+          c.settle.ensures
+          ∙ left_done_state c.args.xid c.args.number it.last c.in-Some.it p it.tables.items it.done.items c.append_reserved.new.done.items it.left.items c.take_left.new.left.items it.pending.items
+          c.args.self.now.state is c.requires.left.1 (sym c.in-Some.ensures.found) appended c.in-Some.ensures.rest asked;
+    }

@@ -19,5 +19,7 @@ pub returns : goal.returns
 returns c =
     let it = c.self.inside in
     let is = ap (λ (l : Live). l.state) c.self.view_is in
-    ap (λ (ps : List Pending). state_of it.tables.items it.done.items it.left.items ps it.last) c.prepare.ensures.items
-    ∙ state_under c.args.txn c.args.xid it.last it.tables.items it.done.items it.left.items it.pending.items c.args.self.now.state c.self.invariant.0.distinct is c.requires.unprepared
+    record {
+      state = ap (λ (ps : List Pending). state_of it.tables.items it.done.items it.left.items ps it.last) c.prepare.ensures.items
+          ∙ state_under c.args.txn c.args.xid it.last it.tables.items it.done.items it.left.items it.pending.items c.args.self.now.state c.self.invariant.0.distinct is c.requires.unprepared;
+    }
