@@ -86,15 +86,15 @@ with_row (Some column) it rows free row =
     ∙ ap (λ (l : List (List Value)). is_some (row_with column (key_in column row) l))
     (sym (free_goes_in (is_some (row_with column (key_in column it) rows)) (in_key_order column it rows) rows free))
 
-refused_none : (a b : Option Refusal) → first_of_two a b ≡ None → b ≡ None
+pub refused_none : (a b : Option Refusal) → first_of_two a b ≡ None → b ≡ None
 refused_none None b is = is
 refused_none (Some a) b is = absurd cc
 
-refused_first : (a b : Option Refusal) → first_of_two a b ≡ None → a ≡ None
+pub refused_first : (a b : Option Refusal) → first_of_two a b ≡ None → a ≡ None
 refused_first None b is = refl
 refused_first (Some a) b is = absurd cc
 
-free_if : (b : Bool) (r : Refusal) → unless (not b) r ≡ None → b ≡ false
+pub free_if : (b : Bool) (r : Refusal) → unless (not b) r ≡ None → b ≡ false
 free_if true r is = absurd cc
 free_if false r is = refl
 

@@ -68,8 +68,8 @@ fn is_at_hand(name: &Name, soname: &Text, shelf: &[EngineFacts]) -> bool
     shelf.iter().any(|engine| engine.name.is_same(name) && engine.soname.is_same(soname))
 }
 
-// Rows are answered, and nothing changes.
-fn answers(alloc: Global, rows: Vec<Row>) -> Effect
+/// Rows are answered, and nothing changes. No memory is taken.
+pub fn answers(alloc: Global, rows: Vec<Row>) -> Effect
     ensures { result ≡ answers rows.items }
 {
     Effect {
@@ -79,8 +79,10 @@ fn answers(alloc: Global, rows: Vec<Row>) -> Effect
     }
 }
 
-// One change of tables or of engines.
-fn makes(alloc: Global, change: Change) -> Result<Effect, AllocError>
+/// One change of tables or of engines.
+///
+/// `AllocError` for want of memory.
+pub fn makes(alloc: Global, change: Change) -> Result<Effect, AllocError>
     ensures { IfOk result (λ it. it ≡ makes change) }
 {
     let mut changes = Vec::new(alloc);
@@ -92,8 +94,10 @@ fn makes(alloc: Global, change: Change) -> Result<Effect, AllocError>
     })
 }
 
-// Rows change, and are counted, unless that makes the transaction too large.
-fn sized(alloc: Global, sizes: Sizes, changes: Vec<Change>) -> Result<Effect, Refusal>
+/// Rows change, and are counted. No memory is taken.
+///
+/// `TransactionTooLarge` exactly where these changes, and the bytes that the transaction had before, pass 1,048,576 bytes in the log.
+pub fn sized(alloc: Global, sizes: Sizes, changes: Vec<Change>) -> Result<Effect, Refusal>
     requires { AreFitChanges changes.items }
     ensures { result ≡ sized sizes changes.items }
 {
@@ -127,7 +131,7 @@ fn insert_effect(
         table.rows.as_slice(),
         &rows,
     )?;
-    let changes = inserts(alloc, definition, rows)?;
+    let changes = inserts(alloc, &definition.table, &definition.schema, rows)?;
     Ok(sized(alloc, sizes, changes)?)
 }
 

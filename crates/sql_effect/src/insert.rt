@@ -3,16 +3,14 @@ ghost use Rattle.std.specs.Prelude.{◌≡◌, ◌<◌, ◌^◌, ◌++◌, All, 
 ghost use Rattle.std.specs.Result.{result_err};
 ghost use Rattle.row_format.specs.Rows.{IsRow};
 ghost use Rattle.row_format.specs.Schemas.{IsSchema};
-ghost use Rattle.sql_effect.specs.Effects.{map_of};
 ghost use Rattle.sql_effect.specs.Insert.{written, insert_refusal, inserts_refusal, inserts};
 ghost use Rattle.sql_effect.specs.Values.{literal_value};
 
 use crate::keys::check_place;
 use crate::values::literal_value;
-use log_tables::Definition;
 use row_format::{Change, Schema, TableMap, check_row, image_len};
 use sql_text::{Literal, Literals};
-use sql_value::{Refusal, Row};
+use sql_value::{Name, Refusal, Row};
 use std::alloc::{AllocError, Global};
 
 // The row that is written out.
@@ -26,8 +24,10 @@ fn write_row(alloc: Global, literals: &[Literal]) -> Result<Row, AllocError>
     Ok(Row::new(values))
 }
 
-/// The rows that are written out.
-pub(crate) fn write_rows(alloc: Global, rows: &[Literals]) -> Result<Vec<Row>, AllocError>
+/// The rows that are written out in an INSERT.
+///
+/// `AllocError` for want of memory.
+pub fn write_rows(alloc: Global, rows: &[Literals]) -> Result<Vec<Row>, AllocError>
     ensures { IfOk result (λ it. it.items ≡ written rows.now) }
 {
     let mut made = Vec::with_capacity(alloc, rows.len())?;
@@ -84,27 +84,31 @@ pub(crate) fn check_inserts(
     Ok(())
 }
 
-/// The table as row changes name it.
-pub(crate) fn map_of(alloc: Global, definition: &Definition) -> Result<TableMap, AllocError>
-    ensures { IfOk result (λ it. it ≡ map_of definition.now) }
+/// A table as row changes name it.
+pub(crate) fn map_of(alloc: Global, table: &Name, schema: &Schema) -> Result<TableMap, AllocError>
+    ensures { IfOk result (λ it. it ≡ record { table = table.now; schema = schema.now }) }
 {
     Ok(TableMap {
-        table: definition.table.copy()?,
-        schema: definition.schema.copy(alloc)?,
+        table: table.copy()?,
+        schema: schema.copy(alloc)?,
     })
 }
 
-/// The change for each row.
-pub(crate) fn inserts(
+/// The change for each row that an INSERT adds to a table.
+///
+/// `AllocError` for want of memory.
+pub fn inserts(
     alloc: Global,
-    definition: &Definition,
+    table: &Name,
+    schema: &Schema,
     rows: Vec<Row>,
 ) -> Result<Vec<Change>, AllocError>
-    ensures { IfOk result (λ it. it.items ≡ inserts (map_of definition.now) rows.items) }
+    ensures { IfOk result (λ it. it.items
+        ≡ inserts (record { table = table.now; schema = schema.now }) rows.items) }
 {
     let mut changes = Vec::with_capacity(alloc, rows.len())?;
     for row in rows {
-        let map = map_of(alloc, definition)?;
+        let map = map_of(alloc, table, schema)?;
         changes.push(Change::Insert { map, row })?;
     }
     Ok(changes)

@@ -20,7 +20,8 @@ mod tests;
 mod texts;
 mod values;
 
-pub use effects::effect_of;
+pub use effects::{answers, effect_of, makes, sized};
+pub use insert::{inserts, write_rows};
 pub use laws::{
     insert_goes_on, one_effect, truth_of_and, truth_of_not, truth_of_or, truth_of_steps,
 };

@@ -247,7 +247,7 @@ fn add_change(
     match made {
         Made::Stays => {}
         Made::Becomes(after) => {
-            let map = map_of(alloc, definition)?;
+            let map = map_of(alloc, &definition.table, &definition.schema)?;
             let before = copy_row(alloc, row)?;
             changes.push(Change::Update {
                 map,
@@ -257,7 +257,7 @@ fn add_change(
             })?;
         }
         Made::Goes => {
-            let map = map_of(alloc, definition)?;
+            let map = map_of(alloc, &definition.table, &definition.schema)?;
             let before = copy_row(alloc, row)?;
             changes.push(Change::Delete { map, place, before })?;
         }
