@@ -24,48 +24,49 @@ gives : {A : Type 0} (b : Bool) (x y : A) → cond b (Some x) None ≡ Some y �
 gives true x y is = cc
 gives false x y is = absurd cc
 
-both : (a b : Bool) → (a && b) ≡ true → a ≡ true
-both true b is = refl
-both false b is = absurd cc
+first_so : (a b : Bool) → (a && b) ≡ true → a ≡ true
+first_so true b is = refl
+first_so false b is = absurd cc
 
-by_place : (flags : Flags) (columns : List Column) (key : Option (Option ℕ)) (s : Schema) → schema_if flags columns key ≡ Some s → is_allowed s.columns s.key ≡ true
+second_so : (a b : Bool) → (a && b) ≡ true → b ≡ true
+second_so true b is = is
+second_so false b is = absurd cc
+
+-- the schema is one, and the flags allow it
+abbrev is_granted : Flags → Schema → Bool
+is_granted flags s = is_allowed s.columns s.key && allows flags s
+
+by_place : (flags : Flags) (columns : List Column) (key : Option (Option ℕ)) (s : Schema) → schema_if flags columns key ≡ Some s → is_granted flags s ≡ true
 by_place flags columns None s is = absurd cc
 by_place flags columns (Some key) s is =
     let made : Schema = record { columns = columns; key = key } in
-    let so = given (is_allowed columns key && allows flags made) made s is in
-    subst (λ (it : Schema). is_allowed it.columns it.key ≡ true) (gives (is_allowed columns key && allows flags made) made s is)
-    (both (is_allowed columns key) (allows flags made) so)
+    subst (λ (it : Schema). is_granted flags it ≡ true) (gives (is_granted flags made) made s is) (given (is_granted flags made) made s is)
 
 by_items : (b : Bool) (made : Option Schema) (s : Schema) → cond b None made ≡ Some s → made ≡ Some s
 by_items true made s is = absurd cc
 by_items false made s is = is
 
-by_key : (flags : Flags) (items : List Item) (key : Option (List ℕ)) (s : Schema) → schema_with flags items key ≡ Some s → is_allowed s.columns s.key ≡ true
+by_key : (flags : Flags) (items : List Item) (key : Option (List ℕ)) (s : Schema) → schema_with flags items key ≡ Some s → is_granted flags s ≡ true
 by_key flags items key s is =
     by_place flags (filter_map (column_of key) items) (key_place key (filter_map (column_of key) items)) s
     (by_items (list_any (is_torn key) items) (schema_of_columns flags (filter_map (column_of key) items) key) s is)
 
-by_keys : (flags : Flags) (items : List Item) (keys : List (List ℕ)) (s : Schema) → schema_for flags items keys ≡ Some s → is_allowed s.columns s.key ≡ true
+by_keys : (flags : Flags) (items : List Item) (keys : List (List ℕ)) (s : Schema) → schema_for flags items keys ≡ Some s → is_granted flags s ≡ true
 by_keys flags items [] s is = by_key flags items None s is
 by_keys flags items (key ∷ []) s is = by_key flags items (Some key) s is
 by_keys flags items (key ∷ other ∷ keys) s is = absurd cc
 
+schema_granted : (asks : Statement) (flags : Flags) (s : Schema) → schema_of asks None flags ≡ Some s → is_granted flags s ≡ true
+schema_granted (statement.Create table items engine) flags s is = by_keys flags items (keys_named items) s is
+schema_granted _ flags s is = absurd cc
+
 -- the schema that a CREATE makes
 pub schema_allowed : (asks : Statement) (flags : Flags) (s : Schema) → schema_of asks None flags ≡ Some s → is_allowed s.columns s.key ≡ true
-schema_allowed (statement.Create table items engine) flags s is = by_keys flags items (keys_named items) s is
-schema_allowed (statement.Drop table) flags s is = absurd cc
-schema_allowed (statement.Insert table rows) flags s is = absurd cc
-schema_allowed (statement.Select table names where_is) flags s is = absurd cc
-schema_allowed (statement.Update table sets where_is) flags s is = absurd cc
-schema_allowed (statement.Delete table where_is) flags s is = absurd cc
-schema_allowed statement.Begin flags s is = absurd cc
-schema_allowed statement.Commit flags s is = absurd cc
-schema_allowed statement.Rollback flags s is = absurd cc
-schema_allowed (statement.Savepoint point) flags s is = absurd cc
-schema_allowed (statement.RollbackTo point) flags s is = absurd cc
-schema_allowed (statement.Release point) flags s is = absurd cc
-schema_allowed (statement.Install name soname) flags s is = absurd cc
-schema_allowed (statement.Uninstall name) flags s is = absurd cc
+schema_allowed asks flags s is = first_so (is_allowed s.columns s.key) (allows flags s) (schema_granted asks flags s is)
+
+-- and the engine allows it
+pub schema_suits : (asks : Statement) (flags : Flags) (s : Schema) → schema_of asks None flags ≡ Some s → allows flags s ≡ true
+schema_suits asks flags s is = second_so (is_allowed s.columns s.key) (allows flags s) (schema_granted asks flags s is)
 
 one_is : {X : Type 0} (P : X → Type 0) (y x : X) → P y → Some y ≡ Some x → P x
 one_is P y x p e = subst P same p

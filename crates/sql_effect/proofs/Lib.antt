@@ -8,3 +8,4 @@ pub mod RewriteLemmas
 pub mod EffectLemmas
 pub mod TextLemmas
 pub mod OrderLemmas
+pub mod SoundLemmas

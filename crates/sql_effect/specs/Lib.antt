@@ -7,3 +7,4 @@ pub mod Rewrite
 pub mod Outcomes
 pub mod Effects
 pub mod Texts
+pub mod Logs

@@ -1,6 +1,12 @@
-//! Laws of conditions, of an INSERT row by row, and of texts: functions that do nothing, each with a law for its contract.
-ghost use Rattle.std.specs.Prelude.{◌≡◌, ◌+◌, ◌++◌, ◌∷◌, [], ℕ, List, length, Some, None, true, unwrap_or, Result};
+//! Laws of conditions, of an INSERT row by row, of texts, and of the tables of a log: functions that do nothing, each with a law for its
+//! contract.
+ghost use Rattle.std.specs.Prelude.{◌≡◌, ◌+◌, ◌++◌, ◌∷◌, [], ℕ, List, All, length, Some, None, true, unwrap_or, Result};
+ghost use Rattle.log_tables.specs.declared.table.Table.{Table};
+ghost use Rattle.log_tables.specs.Changes.{after_changes, tables_after};
 ghost use Rattle.log_tables.specs.Keys.{inserted};
+ghost use Rattle.row_format.specs.declared.change.Change.{Change};
+ghost use Rattle.row_format.specs.declared.change.Transaction.{Transaction};
+ghost use Rattle.row_format.specs.Changes.{AreFitChanges};
 ghost use Rattle.row_format.specs.declared.schema.Schema.{Schema};
 ghost use Rattle.sql_value.specs.declared.refusal.Refusal.{Refusal};
 ghost use Rattle.sql_effect.specs.declared.shape.Effect.{Effect};
@@ -9,6 +15,7 @@ ghost use Rattle.sql_effect.specs.declared.shape.Sizes.{Sizes};
 ghost use Rattle.sql_effect.specs.declared.shape.View.{View};
 ghost use Rattle.sql_effect.specs.Texts.{IsEffect};
 ghost use Rattle.sql_effect.specs.Insert.{insert_refusal, inserts_refusal};
+ghost use Rattle.sql_effect.specs.Logs.{IsSound};
 ghost use Rattle.sql_effect.specs.Sizes.{row_bytes};
 ghost use Rattle.sql_effect.specs.Conditions.{all_steps, all_of, one_of, Says, EachSays, cond_truth};
 ghost use Rattle.sql_value.specs.Truth.{truth_not};
@@ -62,4 +69,16 @@ pub fn one_effect()
     ensures { (shelf : List EngineFacts) (view : View) (sizes : Sizes) (text : List ℕ)
         → (a b : Result Effect Refusal)
         → IsEffect shelf view sizes text a → IsEffect shelf view sizes text b → a ≡ b }
+{}
+
+/// The tables of a log are sound, where each of its changes fits.
+pub fn sound_of_log()
+    ensures { (log : List Transaction) → All (λ (it : Transaction). AreFitChanges it.changes) log
+        → All IsSound (tables_after log) }
+{}
+
+/// Sound tables stay sound over changes that fit.
+pub fn sound_after_changes()
+    ensures { (changes : List Change) (tables : List Table) → AreFitChanges changes
+        → All IsSound tables → All IsSound (after_changes changes tables) }
 {}

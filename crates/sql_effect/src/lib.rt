@@ -23,7 +23,8 @@ mod values;
 pub use effects::{answers, effect_of, makes, sized};
 pub use insert::{inserts, write_rows};
 pub use laws::{
-    insert_goes_on, one_effect, truth_of_and, truth_of_not, truth_of_or, truth_of_steps,
+    insert_goes_on, one_effect, sound_after_changes, sound_of_log, truth_of_and, truth_of_not,
+    truth_of_or, truth_of_steps,
 };
 pub use shape::{Effect, EffectFault, EngineFacts, Sizes, View};
 pub use tables::are_tables;
