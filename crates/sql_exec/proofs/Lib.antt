@@ -3,3 +3,15 @@ pub mod FaultLemmas
 pub mod RunLemmas
 pub mod SearchLemmas
 pub mod SelectLemmas
+pub mod StateLemmas
+pub mod TableLemmas
+pub mod InsertLemmas
+pub mod WrittenLemmas
+pub mod PutLemmas
+pub mod CarryLemmas
+pub mod RowsLemmas
+pub mod AddedLemmas
+pub mod BackLemmas
+pub mod MakeLemmas
+pub mod ExecuteLemmas
+pub mod PlanningLemmas

@@ -11,7 +11,7 @@ use Rattle.engine_api.specs.declared.fault.EngineFault.{EngineFault}
 use Rattle.engine_api.specs.declared.fault.EngineFault.TheVariants as engine
 use Rattle.log_tables.specs.declared.gist.Gist.{Gist}
 use Rattle.engine_api.specs.States.{Kind, EngineState}
-use Rattle.engine_api.specs.Reads.{Reading, SameReading, EachReads, files_in, OnlyIn}
+use Rattle.engine_api.specs.Reads.{Reading, EachReads, files_in, OnlyIn}
 use Rattle.engine_api.specs.Calls.{IsDevice as IsDeviceThere, IsSame, Turns, GoesOn as GoesOnThere}
 use Rattle.engine_api.proofs.ManyLemmas.{reads_as, same_itself}
 use Rattle.sql_exec.specs.declared.fault.ExecFault.{ExecFault}
@@ -101,11 +101,8 @@ told_as inner outer s new holds a b runs goes here = record {
     at (Err (NotAVolume file)) ok refused on = refused tt
     at (Err Memory) ok refused on = refused tt
 
-rose_from : (x y z : ℕ) → x ≤ y → Rose y z → Rose x z
+pub rose_from : (x y z : ℕ) → x ≤ y → Rose y z → Rose x z
 rose_from x y z le h = grind arith
-
-turned_reading : (old new : Reading) → SameReading old new → SameReading new old
-turned_reading old new same = record { faithful = same.faithful_back; faithful_back = same.faithful; stands = same.stands_back; stands_back = same.stands }
 
 -- One run behind another, of the engine that is the same: the second answers for both.
 pub run_on : {T U : Type 0} (kind kind_mid : Kind) (reading reading_mid : Reading) (value : T) (result : Result U ExecFault) (s mid new : EngineState) (held holds : List File → Type 0) (a b d : Disk)
@@ -178,7 +175,7 @@ not_device value is = cc
 pub memory_no_device : (V : Type 0) → IsDevice {T = V} (Err Memory) → ⊥
 memory_no_device V is = cc
 
-is_device : {V : Type 0} (e : ExecFault) → IsDevice {T = V} (Err e) → e ≡ Device
+pub is_device : {V : Type 0} (e : ExecFault) → IsDevice {T = V} (Err e) → e ≡ Device
 is_device e is = cc
 
 goes_as : (V T : Type 0) (f : ExecFault) → GoesOn {T = V} (Err f) → GoesOn {T = T} (Err f)
@@ -187,7 +184,7 @@ goes_as V T Device goes = goes
 goes_as V T (NotAVolume file) goes = tt
 goes_as V T Memory goes = tt
 
-same_goes : {T U : Type 0} (inner : Result T ExecFault) (outer : Result U ExecFault) (fault : ExecFault) → inner ≡ Err fault → IsErrAnd outer (λ e. e ≡ fault)
+pub same_goes : {T U : Type 0} (inner : Result T ExecFault) (outer : Result U ExecFault) (fault : ExecFault) → inner ≡ Err fault → IsErrAnd outer (λ e. e ≡ fault)
     → (GoesOn outer → GoesOn inner) × (IsDevice outer → IsDevice inner)
 same_goes {T = T} {U = U} inner (Ok value) fault is tells = absurd tells
 same_goes {T = T} {U = U} inner (Err e) fault is tells =

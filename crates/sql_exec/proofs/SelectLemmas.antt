@@ -27,7 +27,7 @@ use Rattle.sql_effect.specs.Select.{search_refusal, picked, selected}
 use Rattle.sql_exec.specs.declared.fault.ExecFault.{ExecFault}
 use Rattle.sql_exec.specs.Found.{listed}
 use Rattle.sql_exec.specs.CarriesOut.{MayFail}
-use Rattle.sql_exec.specs.Selects.{CanSelect, IsSelectOn, Searches, Selects, refusal_of, rows_of}
+use Rattle.sql_exec.specs.Selects.{CanSelect, IsInOrder, IsSelectOn, Searches, Selects, refusal_of, rows_of}
 use Rattle.sql_exec.proofs.FaultLemmas.{call_may}
 use Rattle.sql_exec.proofs.RunLemmas.{on_ok}
 use Rattle.sql_exec.proofs.KeyLemmas.{chosen_by_key, key_fits}
@@ -90,17 +90,18 @@ pub plan_key : (table : List ℕ) (names : Option (List (List ℕ))) (w : Option
     → plan.work ≡ statement.Select table names w → plan.path ≡ path.Key key → IsKeyFor (live_schema table s) key
 plan_key table names w plan s key can is by =
     let known = plan_known table names w plan s can is in
-    subst (λ (o : Option Schema). IsKeyFor o key) (sym known.on.0)
+    subst (λ (o : Option Schema). IsKeyFor o key) (sym known.on)
     (key_fits plan.schema w key can.schema (sym known.path ∙ by) (granted_second _ _ known.granted))
 
 -- by key the SELECT answers the row with that key, if there is one, and is not refused
 pub by_key : (table : List ℕ) (names : Option (List (List ℕ))) (w : Option Cond) (plan : Plan) (s : EngineState) (key : Value) → CanSelect plan s
-    → plan.work ≡ statement.Select table names w → plan.path ≡ path.Key key
+    → plan.work ≡ statement.Select table names w → plan.path ≡ path.Key key → IsInOrder plan.work plan.schema s
     → (map (picked plan.schema.columns names) (listed (live_row table key s)) ≡ rows_of plan.work plan.schema.columns s) × (refusal_of plan.work plan.schema.columns s ≡ None)
-by_key table names w plan s key can is by =
+by_key table names w plan s key can is by order =
     let known = plan_known table names w plan s can is in
-    let found = chosen_by_key plan.schema w key (live_rows table s) can.schema known.on.1 (sym known.path ∙ by) in (
-      ap (λ (o : Option (List Value)). map (picked plan.schema.columns names) (listed o)) (sym (found_row (table_named table (live_tables s)) plan.schema key known.on.0))
+    let ordered = subst (λ (x : Statement). IsInOrder x plan.schema s) is order in
+    let found = chosen_by_key plan.schema w key (live_rows table s) can.schema ordered (sym known.path ∙ by) in (
+      ap (λ (o : Option (List Value)). map (picked plan.schema.columns names) (listed o)) (sym (found_row (table_named table (live_tables s)) plan.schema key known.on))
           ∙ ap (map (picked plan.schema.columns names)) (sym found.0)
           ∙ ap (λ (x : Statement). rows_of x plan.schema.columns s) (sym is),
       ap (λ (x : Statement). refusal_of x plan.schema.columns s) is ∙ found.1,
@@ -117,8 +118,8 @@ pub key_selects : (table : List ℕ) (names : Option (List (List ℕ))) (w : Opt
 key_selects table names w plan s key columns files told result can is by same rows may =
     let found = by_key table names w plan s key can is by in
     record {
-      granted = on_ok result found.1;
-      answer = subst (λ (xs : List (List Value)). IfOk result (λ it. it.items ≡ xs)) found.0
+      granted = λ order. on_ok result (found order).1;
+      answer = λ order. subst (λ (xs : List (List Value)). IfOk result (λ it. it.items ≡ xs)) (found order).0
           (subst (λ (cs : List Column). IfOk result (λ it. it.items ≡ map (picked cs names) (listed (live_row table key s)))) same rows);
       err = if_err_all result (MayFail None files told) (MayFail (refusal_of plan.work plan.schema.columns s) files told)
           (λ e it. call_may (refusal_of plan.work plan.schema.columns s) files told e it) may;
@@ -134,7 +135,7 @@ scan_selects table names w plan s columns files told result is same searches =
     let rows : selected columns names w (live_rows table s) ≡ rows_of plan.work plan.schema.columns s =
     ap (λ (cs : List Column). selected cs names w (live_rows table s)) same ∙ ap (λ (x : Statement). rows_of x plan.schema.columns s) (sym is) in
     record {
-      granted = subst (λ (o : Option Refusal). OnOk result (o ≡ None)) refusal searches.granted;
-      answer = subst (λ (xs : List (List Value)). IfOk result (λ it. it.items ≡ xs)) rows searches.answer;
+      granted = λ order. subst (λ (o : Option Refusal). OnOk result (o ≡ None)) refusal searches.granted;
+      answer = λ order. subst (λ (xs : List (List Value)). IfOk result (λ it. it.items ≡ xs)) rows searches.answer;
       err = subst (λ (o : Option Refusal). IfErr result (MayFail o files told)) refusal searches.err;
     }

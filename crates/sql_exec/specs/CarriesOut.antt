@@ -33,6 +33,13 @@ pub record CarriesOut {T : Type 0} (kind : Kind) (reading : Reading) (result : R
   pub moments : IsTrue before.told → Keeps before after (OnlyIn kind.files (now before) (EachReads reading (back.kept ++ next.kept)))
   pub files : IsTrue before.told → GoesOn result → holds (files_in kind.files after) × EachReads reading new.kept (files_in kind.files after)
 
+-- A statement that makes no device call: after Ok the engine has the next state; after a refusal the one that it goes back to; and what the
+-- files were to it they are.
+pub record CarriesAlone {T : Type 0} (result : Result T ExecFault) (next back new : EngineState) (held holds : List File → Type 0) : Type 0 where
+  pub ok : OnOk result (new ≡ next)
+  pub refused : IsRefused result → new ≡ back
+  pub files : (files : List File) → held files → holds files
+
 -- the fault may come: the refusal that there is; Device and Memory; and that a file is none only where contents are not told, and then the
 -- first of these
 abbrev pub MayFail : Option Refusal → List ℕ → Bool → ExecFault → Type 0

@@ -3,3 +3,8 @@ pub mod Faults
 pub mod Found
 pub mod CarriesOut
 pub mod Selects
+pub mod Changes
+pub mod Inserts
+pub mod Makes
+pub mod Executes
+pub mod Plannings

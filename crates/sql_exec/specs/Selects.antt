@@ -1,5 +1,5 @@
 -- What a SELECT answers on an engine, and which plans of one an engine can carry out. (This project.)
-use Rattle.std.specs.Prelude.{◌≡◌, ◌≤◌, length, take, ℕ, suc, List, [], Option, Some, None, Bool, Result, OnOk, IfOk, IfErr}
+use Rattle.std.specs.Prelude.{◌≡◌, ◌≤◌, length, take, ℕ, suc, List, [], Option, Some, None, Bool, Result, Ok, OnOk, IfOk, IfErr}
 use Rattle.std.specs.declared.vec.Vec.{Vec}
 use Rattle.std.specs.declared.alloc.Global.{Global}
 use Rattle.sql_value.specs.declared.refusal.Refusal.{Refusal}
@@ -15,6 +15,9 @@ use Rattle.sql_text.specs.declared.statement.Statement.{Statement}
 use Rattle.sql_text.specs.declared.statement.Statement.TheVariants as statement
 use Rattle.sql_plan.specs.declared.shape.Plan.{Plan}
 use Rattle.sql_plan.specs.Plans.{use_refusal, path_of}
+use Rattle.sql_effect.specs.declared.shape.Effect.{Effect}
+use Rattle.sql_effect.specs.Effects.{answers}
+use Rattle.sql_effect.specs.Rewrite.{refused_or}
 use Rattle.sql_effect.specs.Select.{search_refusal, selected}
 use Rattle.sql_exec.specs.declared.fault.ExecFault.{ExecFault}
 use Rattle.sql_exec.specs.CarriesOut.{MayFail}
@@ -29,10 +32,19 @@ abbrev pub refusal_of : Statement → List Column → EngineState → Option Ref
 refusal_of (statement.Select table names where_is) columns state = search_refusal columns where_is (live_rows table state)
 refusal_of _ columns state = None
 
--- it is a SELECT of a table that is live with this schema, and whose rows are in key order, where it has a key
+-- what a SELECT comes to on an engine with this state
+abbrev pub select_outcome : Plan → EngineState → Result Effect Refusal
+select_outcome plan state = refused_or (refusal_of plan.work plan.schema.columns state) (Ok (answers (rows_of plan.work plan.schema.columns state)))
+
+-- it is a SELECT of a table that is live with this schema
 abbrev pub IsSelectOn : Statement → Schema → EngineState → Type 0
-IsSelectOn (statement.Select table names where_is) schema state = (live_schema table state ≡ Some schema) × IsOrdered schema.key (live_rows table state)
+IsSelectOn (statement.Select table names where_is) schema state = live_schema table state ≡ Some schema
 IsSelectOn _ schema state = ⊥
+
+-- the rows that a SELECT looks at are in the order of the key, where their table has one
+abbrev pub IsInOrder : Statement → Schema → EngineState → Type 0
+IsInOrder (statement.Select table names where_is) schema state = IsOrdered schema.key (live_rows table state)
+IsInOrder _ schema state = Unit {0}
 
 -- the plan of a SELECT that an engine with this state can carry out: planning did not refuse it, and its rows are found as it says
 pub record CanSelect (plan : Plan) (state : EngineState) : Type 0 where
@@ -47,10 +59,11 @@ pub record Searches (columns : List Column) (names : Option (List (List ℕ))) (
   pub answer : IfOk result (λ it. it.items ≡ selected columns names where_is rows)
   pub err : IfErr result (MayFail (search_refusal columns where_is rows) files told)
 
--- The plan of a SELECT is carried out: what is answered is what the SELECT answers on the engine's live tables, or a fault that may come.
+-- The plan of a SELECT is carried out: what is answered is what the SELECT answers on the engine's live tables, where the rows of its table
+-- are in order, or a fault that may come.
 pub record Selects (plan : Plan) (state : EngineState) (files : List ℕ) (told : Bool) (result : Result (Vec (List Value) Global) ExecFault) : Type 0 where
-  pub granted : OnOk result (refusal_of plan.work plan.schema.columns state ≡ None)
-  pub answer : IfOk result (λ it. it.items ≡ rows_of plan.work plan.schema.columns state)
+  pub granted : IsInOrder plan.work plan.schema state → OnOk result (refusal_of plan.work plan.schema.columns state ≡ None)
+  pub answer : IsInOrder plan.work plan.schema state → IfOk result (λ it. it.items ≡ rows_of plan.work plan.schema.columns state)
   pub err : IfErr result (MayFail (refusal_of plan.work plan.schema.columns state) files told)
 
 -- where a scan stands behind what it found: one place on, where that is a row

@@ -9,8 +9,11 @@
 mod calls;
 mod columns;
 mod conditions;
+mod executing;
 mod fault;
+mod inserting;
 mod laws;
+mod making;
 mod search;
 mod seen;
 mod selecting;
@@ -20,7 +23,9 @@ mod tests;
 
 pub use columns::pick;
 pub use conditions::Chooser;
+pub use executing::execute;
 pub use fault::ExecFault;
-pub use laws::{chosen_by_key, key_of_plan_fits};
+pub use laws::{
+    chosen_by_key, idle_can_execute, key_of_plan_fits, same_effect_on_view, same_refusal_on_view,
+};
 pub use search::select_rows;
-pub use selecting::select;

@@ -141,7 +141,7 @@ fn scan(
 ///
 /// `Refused` with `OutOfRange` exactly where a sum of the condition goes outside BIGINT on a row of the table, unless another fault comes
 /// first. `Device`; `NotAVolume`, where contents are not told; `Memory`.
-pub fn select(
+pub(crate) fn select(
     alloc: Global,
     engine: &mut Box<dyn Engine + Send>,
     volume: &mut dyn Storage,
