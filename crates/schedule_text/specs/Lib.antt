@@ -1,0 +1,4 @@
+pub mod Front
+pub mod Inside
+pub mod Lines
+pub mod Printed
