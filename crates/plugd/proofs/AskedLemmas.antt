@@ -1,6 +1,6 @@
 -- What a statement that is granted changes: it applies to the log's tables, it is the engine's, and the catalog goes on with the log.
-use Rattle.std.proofs.Common.{◌≡◌, ◌⊎◌, inl, inr, ℕ, List, [], ◌∷◌, ◌++◌, Option, Some, None, Bool, true, false, cond, refl, sym, ◌∙◌, ap, subst}
-use Rattle.std.specs.Prelude.{is_some, is_none, ◌||◌}
+use Rattle.std.proofs.Common.{◌≡◌, ◌⊎◌, inl, inr, ℕ, ℤ, ◌<◌, ◌^◌, List, [], ◌∷◌, ◌++◌, length, Option, Some, None, Bool, true, false, cond, refl, sym, ◌∙◌, ap, subst, arith}
+use Rattle.std.specs.Prelude.{Contains, is_some, is_none, option_to_list, ◌||◌}
 use Rattle.std.specs.Str.{bytes_eq}
 use Rattle.std.specs.List.{list_any}
 use Rattle.std.proofs.lemmas.Slice.Eq.{bytes_eq-Decides}
@@ -18,15 +18,20 @@ use Rattle.row_format.proofs.SameLemmas.{same_schema_refl}
 use Rattle.log_tables.specs.declared.table.Table.{Table}
 use Rattle.log_tables.specs.Keys.{inserted, in_key_order}
 use Rattle.log_tables.specs.Tables.{is_named, is_of, table_named, part_of, new_table, IsDictionary}
-use Rattle.log_tables.specs.Changes.{after_change, after_changes, installed_after, installed_change, installed_changes, tables_after, changed, with_rows, is_on, found_of, takes, rows_after, Applies, EachApplies, changes_on}
+use Rattle.log_tables.specs.Changes.{after_change, after_changes, installed_after, installed_change, installed_changes, tables_after, changed, with_rows, is_on, found_of, takes, rows_after, Applies}
 use Rattle.log_tables.proofs.FoldLemmas.{IsDictionary-tables_after, tables_after-append, installed_after-append}
 use Rattle.log_tables.proofs.PartLemmas.{cases, cond_true, cond_false, table_named-part, free-part}
-use Rattle.engine_api.specs.Live.{schema_found, insert_into, is_taken_in, is_key_taken}
+use Rattle.engine_api.specs.declared.flags.Flags.{Flags}
+use Rattle.engine_api.specs.Live.{allows, schema_found, insert_into, is_taken_in, is_key_taken}
+use Rattle.engine_api.specs.States.{Kind}
+use Rattle.recovery_rules.specs.Recovery.{Suits}
+use Rattle.volume_rules.proofs.ListLemmas.{only_one, not_on_none}
 use Rattle.plugd.specs.declared.command.Command.{Command}
 use Rattle.plugd.specs.declared.command.Command.TheVariants as command
 use Rattle.plugd.specs.Play.{is_prepared_for}
-use Rattle.plugd.specs.Serve.{IsCatalogOf}
-use Rattle.plugd.specs.Asked.{Catalog, after_command, after_some, engine_name, table_name, table_schema, row_of, change_by, refusal_of, refused_unless, full_unless_room, insert_refusal}
+use Rattle.plugd.specs.Serve.{IsCatalogOf, IsJournal}
+use Rattle.plugd.specs.Way.{AreOwn}
+use Rattle.plugd.specs.Asked.{Catalog, after_command, engine_name, table_name, table_schema, row_of, changes_by, refusal_of, refused_unless, full_unless_room, insert_refusal}
 
 true_false : true ≡ false → ⊥
 true_false e = cc
@@ -134,42 +139,73 @@ not_there : {X : Type 0} (o : Option X) → is_some o ≡ false → is_none o �
 not_there None is = refl
 not_there (Some x) is = cc
 
+-- one change, on a table of the engine, that applies
+one_own : (it : Change) (ts : List Table) → is_on engine_name it ts ≡ true → Applies it ts → AreOwn (it ∷ []) ts
+one_own it ts on applies = record { own = cond_true (is_on engine_name it ts) (it ∷ []) [] on; apply = ((λ _. applies), tt) }
+
+-- what an INSERT changes where its table is live
+pub insert_asked : (here : Catalog) (key : ℤ) (text : List ℕ) (schema : Schema) → schema_found (table_named table_name here.live) ≡ Some schema
+    → changes_by (command.Insert key text) here ≡ change.Insert (record { table = table_name; schema = schema }) (row_of key text) ∷ []
+insert_asked here key text schema found = ap (λ (o : Option Schema). option_to_list (insert_into table_name o (row_of key text))) found
+
 -- What a granted CREATE or INSERT changes is the engine's, and applies to the log's tables.
-pub granted_applies : (log : List Transaction) (here : Catalog) (asks : Command) (it : Change) → is_prepared_for asks ≡ true → IsCatalogOf log here → here.live ≡ part_of engine_name (tables_after log)
-    → change_by asks here ≡ Some it → refusal_of asks here ≡ None → (is_on engine_name it (tables_after log) ≡ true) × Applies it (tables_after log)
-granted_applies log here command.Settle it prepared is live makes granted = absurd (true_false (sym prepared))
-granted_applies log here command.Bad it prepared is live makes granted = absurd (true_false (sym prepared))
-granted_applies log here command.Install it prepared is live makes granted = absurd (true_false (sym prepared))
-granted_applies log here command.Create it prepared is live makes granted =
-    subst (λ (c : Change). (is_on engine_name c (tables_after log) ≡ true) × Applies c (tables_after log)) (some_same makes) (
-      bytes_refl engine_name,
-      not_there (table_named table_name (tables_after log)) (sym is.made ∙ create_granted here.made here.installed (is_some (table_named table_name here.live)) (after_command command.Create here).live granted),
-    )
-granted_applies log here (command.Insert key text) it prepared is live makes granted =
+pub granted_own : (log : List Transaction) (here : Catalog) (asks : Command) → is_prepared_for asks ≡ true → IsCatalogOf log here → here.live ≡ part_of engine_name (tables_after log)
+    → refusal_of asks here ≡ None → AreOwn (changes_by asks here) (tables_after log)
+granted_own log here command.Settle prepared is live granted = absurd (true_false (sym prepared))
+granted_own log here command.Bad prepared is live granted = absurd (true_false (sym prepared))
+granted_own log here command.Install prepared is live granted = absurd (true_false (sym prepared))
+granted_own log here command.Create prepared is live granted =
+    one_own (change.Create table_name engine_name table_schema) (tables_after log) (bytes_refl engine_name)
+    (not_there (table_named table_name (tables_after log)) (sym is.made ∙ create_granted here.made here.installed (is_some (table_named table_name here.live)) (after_command command.Create here).live granted))
+granted_own log here (command.Insert key text) prepared is live granted =
     let row = row_of key text in
     let found = insert_granted here.made here.installed (table_named table_name here.live) row (after_command (command.Insert key text) here).live granted in
     let there = found_in_part engine_name table_name (tables_after log) found.0 (IsDictionary-tables_after log) (sym (ap (table_named table_name) live) ∙ found.1) in
-    let change_is : change.Insert (record { table = table_name; schema = found.0.definition.schema }) row ≡ it =
-    some_same (sym (ap (λ (o : Option Table). insert_into table_name (schema_found o) row) found.1) ∙ makes) in
-    subst (λ (c : Change). (is_on engine_name c (tables_after log) ≡ true) × Applies c (tables_after log)) change_is (
-      ap (found_of engine_name) there.0 ∙ there.1,
-      ap (takes (change.Insert (record { table = table_name; schema = found.0.definition.schema }) row)) there.0 ∙ takes_row found.0.definition.schema row found.0 refl found.2,
-    )
+    let it = change.Insert (record { table = table_name; schema = found.0.definition.schema }) row in
+    subst (λ (l : List Change). AreOwn l (tables_after log)) (sym (insert_asked here key text found.0.definition.schema (ap schema_found found.1)))
+    (one_own it (tables_after log) (ap (found_of engine_name) there.0 ∙ there.1) (ap (takes it) there.0 ∙ takes_row found.0.definition.schema row found.0 refl found.2))
 
--- the changes of the engine among it: it alone
-pub share_is : (e : List ℕ) (it : Change) (ts : List Table) → is_on e it ts ≡ true → changes_on e (it ∷ []) ts ≡ it ∷ []
-share_is e it ts on = cond_true (is_on e it ts) (it ∷ []) [] on
+-- JOURNAL takes the one table
+pub journal_allows : (kind : Kind) → IsJournal kind → allows kind.flags table_schema ≡ true
+journal_allows kind is = subst (λ (f : Flags). allows f table_schema ≡ true) (sym is.flags) refl
 
--- an INSTALL is none of the engine's
-pub install_is_none : (e name : List ℕ) (ts : List Table) → (changes_on e (change.Install name ∷ []) ts ≡ []) × EachApplies e (change.Install name ∷ []) ts
-install_is_none e name ts = (refl, ((λ on. absurd (true_false (sym on))), tt))
+-- JOURNAL's flags allow each table that a command makes.
+pub asked_suits : (asks : Command) (here : Catalog) (kind : Kind) → IsJournal kind → Suits kind.name (allows kind.flags) (changes_by asks here)
+asked_suits asks here kind is = record { allowed = λ table schema on. go asks table schema on }
+  where
+    made : (schema : Schema) → table_schema ≡ schema → allows kind.flags schema ≡ true
+    made schema same = subst (λ (s : Schema). allows kind.flags s ≡ true) same (journal_allows kind is)
 
--- the tables and the installed engines of a log with one change more
-tables_more : (log : List Transaction) (t : Transaction) (it : Change) → t.changes ≡ it ∷ [] → tables_after (log ++ t ∷ []) ≡ after_change it (tables_after log)
-tables_more log t it is = tables_after-append log t ∙ ap (λ (cs : List Change). after_changes cs (tables_after log)) is
+    go : (a : Command) (table : List ℕ) (schema : Schema) → Contains (changes_by a here) (change.Create table kind.name schema) → allows kind.flags schema ≡ true
+    go command.Settle table schema on = absurd (not_on_none (change.Create table kind.name schema) on)
+    go command.Bad table schema on = absurd (not_on_none (change.Create table kind.name schema) on)
+    go command.Install table schema on = let one = only_one (change.Install engine_name) (change.Create table kind.name schema) on in cc
+    go command.Create table schema on =
+        let one = only_one (change.Create table_name engine_name table_schema) (change.Create table kind.name schema) on in made schema cc
+    go (command.Insert key text) table schema on = row (schema_found (table_named table_name here.live)) on
+      where
+        row : (o : Option Schema) → Contains (option_to_list (insert_into table_name o (row_of key text))) (change.Create table kind.name schema) → allows kind.flags schema ≡ true
+        row None on = absurd (not_on_none (change.Create table kind.name schema) on)
+        row (Some s) on = let one = only_one (change.Insert (record { table = table_name; schema = s }) (row_of key text)) (change.Create table kind.name schema) on in cc
 
-installed_more : (log : List Transaction) (t : Transaction) (it : Change) → t.changes ≡ it ∷ [] → installed_after (log ++ t ∷ []) ≡ installed_change it (installed_after log)
-installed_more log t it is = installed_after-append log t ∙ ap (λ (cs : List Change). installed_changes cs (installed_after log)) is
+-- a command makes few changes
+pub asked_few : (asks : Command) (here : Catalog) → length (changes_by asks here) < 2 ^ 31
+asked_few command.Settle here = omega arith
+asked_few command.Bad here = omega arith
+asked_few command.Install here = omega arith
+asked_few command.Create here = omega arith
+asked_few (command.Insert key text) here = row (insert_into table_name (schema_found (table_named table_name here.live)) (row_of key text))
+  where
+    row : (o : Option Change) → length (option_to_list o) < 2 ^ 31
+    row None = omega arith
+    row (Some it) = omega arith
+
+-- the tables and the installed engines of a log with one transaction more
+tables_more : (log : List Transaction) (t : Transaction) (changes : List Change) → t.changes ≡ changes → tables_after (log ++ t ∷ []) ≡ after_changes changes (tables_after log)
+tables_more log t changes is = tables_after-append log t ∙ ap (λ (cs : List Change). after_changes cs (tables_after log)) is
+
+installed_more : (log : List Transaction) (t : Transaction) (changes : List Change) → t.changes ≡ changes → installed_after (log ++ t ∷ []) ≡ installed_changes changes (installed_after log)
+installed_more log t changes is = installed_after-append log t ∙ ap (λ (cs : List Change). installed_changes cs (installed_after log)) is
 
 -- a table behind others is there
 table_appended : (engine : List ℕ) (schema : Schema) (l : List Table) → is_some (table_named table_name (l ++ new_table table_name engine schema ∷ [])) ≡ true
@@ -228,39 +264,43 @@ installed_there names = go (list_any (bytes_eq engine_name) names) refl
     go true is = ap (list_any (bytes_eq engine_name)) (cond_true (list_any (bytes_eq engine_name) names) names (names ++ engine_name ∷ []) is) ∙ is
     go false is = ap (list_any (bytes_eq engine_name)) (cond_false (list_any (bytes_eq engine_name) names) names (names ++ engine_name ∷ []) is) ∙ name_appended names
 
+-- changes that make no table of the name, take none, and install no engine, leave the catalog
+stays : (log : List Transaction) (t : Transaction) (here : Catalog) (live : List Table) (changes : List Change) → t.changes ≡ changes → IsCatalogOf log here
+    → is_some (table_named table_name (after_changes changes (tables_after log))) ≡ is_some (table_named table_name (tables_after log))
+    → installed_changes changes (installed_after log) ≡ installed_after log
+    → IsCatalogOf (log ++ t ∷ []) (record { made = here.made; installed = here.installed; live = live })
+stays log t here live changes all is names engines = record {
+  made = is.made ∙ sym (ap (λ (l : List Table). is_some (table_named table_name l)) (tables_more log t changes all) ∙ names);
+  installed = is.installed ∙ sym (ap (list_any (bytes_eq engine_name)) (installed_more log t changes all ∙ engines));
+}
+
 -- The catalog goes on with the log.
-pub catalog_goes : (log : List Transaction) (t : Transaction) (here : Catalog) (asks : Command) (it : Change) → t.changes ≡ it ∷ [] → IsCatalogOf log here → change_by asks here ≡ Some it
+pub catalog_goes : (log : List Transaction) (t : Transaction) (here : Catalog) (asks : Command) → t.changes ≡ changes_by asks here → IsCatalogOf log here
     → IsCatalogOf (log ++ t ∷ []) (after_command asks here)
-catalog_goes log t here command.Settle it one is makes = absurd (none_some makes)
-catalog_goes log t here command.Bad it one is makes = absurd (none_some makes)
-catalog_goes log t here command.Install it one is makes =
-    let it_is : it ≡ change.Install engine_name = sym (some_same makes) in
-    record {
-      made = is.made ∙ sym (ap (λ (l : List Table). is_some (table_named table_name l)) (tables_more log t it one ∙ ap (λ (c : Change). after_change c (tables_after log)) it_is));
-      installed = sym (ap (list_any (bytes_eq engine_name)) (installed_more log t it one ∙ ap (λ (c : Change). installed_change c (installed_after log)) it_is) ∙ installed_there (installed_after log));
-    }
-catalog_goes log t here command.Create it one is makes =
-    let it_is : it ≡ change.Create table_name engine_name table_schema = sym (some_same makes) in
-    record {
-      made = sym (ap (λ (l : List Table). is_some (table_named table_name l)) (tables_more log t it one ∙ ap (λ (c : Change). after_change c (tables_after log)) it_is) ∙ made_there (tables_after log) engine_name table_schema);
-      installed = is.installed ∙ sym (ap (list_any (bytes_eq engine_name)) (installed_more log t it one ∙ ap (λ (c : Change). installed_change c (installed_after log)) it_is));
-    }
-catalog_goes log t here (command.Insert key text) it one is makes = go (schema_found (table_named table_name here.live)) refl
+catalog_goes log t here command.Settle all is = stays log t here here.live [] all is refl refl
+catalog_goes log t here command.Bad all is = stays log t here here.live [] all is refl refl
+catalog_goes log t here command.Install all is = record {
+  made = is.made ∙ sym (ap (λ (l : List Table). is_some (table_named table_name l)) (tables_more log t (changes_by command.Install here) all));
+  installed = sym (ap (list_any (bytes_eq engine_name)) (installed_more log t (changes_by command.Install here) all) ∙ installed_there (installed_after log));
+}
+catalog_goes log t here command.Create all is = record {
+  made = sym (ap (λ (l : List Table). is_some (table_named table_name l)) (tables_more log t (changes_by command.Create here) all) ∙ made_there (tables_after log) engine_name table_schema);
+  installed = is.installed ∙ sym (ap (list_any (bytes_eq engine_name)) (installed_more log t (changes_by command.Create here) all));
+}
+catalog_goes log t here (command.Insert key text) all is = go (schema_found (table_named table_name here.live)) refl
   where
     go : (o : Option Schema) → schema_found (table_named table_name here.live) ≡ o → IsCatalogOf (log ++ t ∷ []) (after_command (command.Insert key text) here)
-    go None at = absurd (none_some (sym (ap (λ (o : Option Schema). insert_into table_name o (row_of key text)) at) ∙ makes))
+    go None at =
+        stays log t here (after_command (command.Insert key text) here).live [] (all ∙ ap (λ (o : Option Schema). option_to_list (insert_into table_name o (row_of key text))) at) is refl refl
     go (Some schema) at =
-        let it_is : it ≡ change.Insert (record { table = table_name; schema = schema }) (row_of key text) = some_same (sym makes ∙ ap (λ (o : Option Schema). insert_into table_name o (row_of key text)) at) in
-        record {
-          made = is.made ∙ sym (ap (λ (l : List Table). is_some (table_named table_name l)) (tables_more log t it one ∙ ap (λ (c : Change). after_change c (tables_after log)) it_is)
-              ∙ still_there table_name (record { table = table_name; schema = schema }) (row_of key text) (tables_after log));
-          installed = is.installed ∙ sym (ap (list_any (bytes_eq engine_name)) (installed_more log t it one ∙ ap (λ (c : Change). installed_change c (installed_after log)) it_is));
-        }
+        let map : TableMap = record { table = table_name; schema = schema } in
+        stays log t here (after_command (command.Insert key text) here).live (change.Insert map (row_of key text) ∷ [])
+        (all ∙ insert_asked here key text schema at) is (still_there table_name map (row_of key text) (tables_after log)) refl
 
--- the tables that the engine has go on with the change
-pub live_goes : (here : Catalog) (asks : Command) (it : Change) → is_prepared_for asks ≡ true → change_by asks here ≡ Some it → (after_command asks here).live ≡ after_change it here.live
-live_goes here command.Settle it prepared makes = absurd (true_false (sym prepared))
-live_goes here command.Bad it prepared makes = absurd (true_false (sym prepared))
-live_goes here command.Install it prepared makes = absurd (true_false (sym prepared))
-live_goes here command.Create it prepared makes = ap (λ (o : Option Change). after_some o here.live) makes
-live_goes here (command.Insert key text) it prepared makes = ap (λ (o : Option Change). after_some o here.live) makes
+-- the tables that the engine has go on with the changes
+pub live_goes : (here : Catalog) (asks : Command) → (after_command asks here).live ≡ after_changes (changes_by asks here) here.live
+live_goes here command.Settle = refl
+live_goes here command.Bad = refl
+live_goes here command.Install = refl
+live_goes here command.Create = refl
+live_goes here (command.Insert key text) = refl

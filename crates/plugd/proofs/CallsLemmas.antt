@@ -1,37 +1,25 @@
 -- The calls of the engine on the way of a statement: what each leaves of the run.
-use Rattle.std.proofs.Common.{◌≡◌, ⊎_elim, ℕ, zero, suc, List, [], ◌∷◌, ◌++◌, Option, Some, None, true, Result, IsTrue, refl, sym, ◌∙◌, ap, subst, arith}
+use Rattle.std.proofs.Common.{◌≡◌, ⊎_elim, ℕ, zero, suc, List, [], ◌∷◌, ◌++◌, Some, Result, IsTrue, refl, ◌∙◌, ap, subst, arith}
 use Rattle.std.specs.Prelude.{Contains, slice_get}
 use Rattle.std.proofs.lemmas.List.{map-append}
 use Rattle.std.proofs.lemmas.List.Elements.{Contains-append_left, Contains-append_right, Contains-append_cases}
 use Rattle.disk_model.specs.File.{File}
 use Rattle.disk_model.specs.Disk.{Disk, now, Keeps}
-use Rattle.row_format.specs.declared.schema.Schema.{Schema}
-use Rattle.row_format.specs.declared.change.Change.{Change}
-use Rattle.row_format.specs.declared.change.Change.TheVariants as change
 use Rattle.row_format.specs.declared.change.Transaction.{Transaction}
 use Rattle.log_tables.specs.declared.gist.Gist.{Gist}
 use Rattle.engine_api.specs.declared.fault.EngineFault.{EngineFault}
 use Rattle.engine_api.specs.States.{Kind, EngineState, Pending, begun_state}
-use Rattle.engine_api.specs.Live.{allows}
 use Rattle.engine_api.specs.Many.{IsAtWork}
 use Rattle.engine_api.specs.Reads.{Reading, SameReading, EachReads, OnlyIn, files_in}
 use Rattle.engine_api.specs.Calls.{GoesOn as EngineGoesOn, Turns}
 use Rattle.recovery_rules.specs.Places.{IsNew}
-use Rattle.recovery_rules.specs.Recovery.{Suits, IsRecoverable}
+use Rattle.recovery_rules.specs.Recovery.{IsRecoverable}
 use Rattle.volume_rules.proofs.SameLemmas.{same_back}
 use Rattle.volume_rules.proofs.StepLemmas.{alone}
-use Rattle.plugd.specs.declared.command.Command.{Command}
-use Rattle.plugd.specs.declared.command.Command.TheVariants as command
-use Rattle.engine_api.specs.declared.flags.Flags.{Flags}
-use Rattle.engine_api.specs.declared.flags.KeyRule.TheVariants.{Allowed}
-use Rattle.engine_api.specs.Live.{schema_found, insert_into}
 use Rattle.engine_api.proofs.ManyLemmas.{reads_as}
-use Rattle.log_tables.specs.Tables.{table_named}
-use Rattle.volume_rules.proofs.ListLemmas.{only_one}
-use Rattle.plugd.specs.Asked.{Catalog, change_by, table_name, table_schema, row_of}
 use Rattle.plugd.specs.Xids.{xids_of, IsNextXid}
 use Rattle.plugd.specs.Play.{State}
-use Rattle.plugd.specs.Serve.{Core, reader_of, shelf_of, CouldRecover, IsIdle, IsJournal}
+use Rattle.plugd.specs.Serve.{Core, reader_of, shelf_of, CouldRecover, IsIdle}
 use Rattle.plugd.specs.Way.{Past, IsOnWay}
 use Rattle.plugd.proofs.XidLemmas.{next_is_new}
 use Rattle.plugd.proofs.AheadLemmas.{Called}
@@ -88,26 +76,3 @@ new_xid found asked given xid all next = record {
 
     has : (x : ℕ) → Contains (xids_of found ++ xids_of asked) x → Contains (xids_of found ++ given) x
     has x on = ⊎_elim (λ one. Contains-append_left (xids_of found) given x one) (λ one. Contains-append_right (xids_of found) given x (all x one)) (Contains-append_cases (xids_of found) (xids_of asked) x on)
-
--- JOURNAL's flags
-abbrev pub journal_flags : Flags
-journal_flags = record { transactional = true; crash_safe = true; key = Allowed; nulls = true }
-
--- JOURNAL's flags allow the one table
-pub suits_granted : (kind : Kind) (here : Catalog) (asks : Command) (it : Change) → IsJournal kind → change_by asks here ≡ Some it → Suits kind.name (allows kind.flags) (it ∷ [])
-suits_granted kind here asks it is makes = record {
-  allowed = λ table schema on.
-      let same : change.Create table kind.name schema ≡ it = only_one it (change.Create table kind.name schema) on in
-      suits asks table schema (makes ∙ ap Some (sym same));
-}
-  where
-    suits : (one : Command) (table : List ℕ) (schema : Schema) → change_by one here ≡ Some (change.Create table kind.name schema) → allows kind.flags schema ≡ true
-    suits command.Settle table schema e = cc
-    suits command.Bad table schema e = cc
-    suits command.Install table schema e = cc
-    suits command.Create table schema e = let same : table_schema ≡ schema = cc in subst (λ (f : Flags). allows f schema ≡ true) (sym is.flags) (subst (λ (s : Schema). allows journal_flags s ≡ true) same refl)
-    suits (command.Insert key text) table schema e = go (schema_found (table_named table_name here.live)) e
-      where
-        go : (o : Option Schema) → insert_into table_name o (row_of key text) ≡ Some (change.Create table kind.name schema) → allows kind.flags schema ≡ true
-        go None q = cc
-        go (Some s) q = cc

@@ -14,7 +14,7 @@ use Rattle.binlog_file.specs.Logged.{Holds, IsLogged, log_of, log_end, log_check
 use Rattle.binlog_file.specs.Binlog.{IsLog}
 use Rattle.binlog_file.proofs.OpenLemmas.{nothing_stands}
 use Rattle.engine_api.specs.Live.{allows}
-use Rattle.engine_api.specs.States.{Kind, EngineState, begun_state, with_change, prepared_state, committed_state}
+use Rattle.engine_api.specs.States.{Kind, EngineState, begun_state, prepared_state, committed_state}
 use Rattle.engine_api.specs.Many.{IsAtWork}
 use Rattle.engine_api.specs.Reads.{EachReads}
 use Rattle.recovery_rules.specs.Recovery.{ShelfEngine, SafeEngine, IsRecovered}
@@ -27,10 +27,11 @@ use Rattle.plugd.specs.declared.reply.HaltCause.{HaltCause}
 use Rattle.plugd.specs.declared.seen.Seen.{Seen}
 use Rattle.plugd.specs.Serve.{session}
 use Rattle.plugd.specs.Asked.{Catalog, after_command, count_of}
+use Rattle.plugd.specs.Changed.{with_changes}
 use Rattle.plugd.specs.LogOne.{IsDurable}
 use Rattle.plugd.specs.Crash.{all_of}
 use Rattle.binlog_file.specs.Binlog.{flushed_of, end_in}
-use Rattle.log_tables.specs.Changes.{after_change}
+use Rattle.log_tables.specs.Changes.{after_changes}
 use Rattle.engine_api.specs.Reads.{SameReading}
 use Rattle.volume_rules.specs.Readers.{with_gists}
 use Rattle.volume_rules.specs.Images.{IsRecoverableVolume}
@@ -50,7 +51,9 @@ use Rattle.plugd.proofs.LogLemmas.{Logs}
 use Rattle.plugd.specs.Spell.{with_halt}
 use Rattle.plugd.proofs.WayLemmas.{plays_push, numbers_same, numbers-append}
 use Rattle.plugd.proofs.CallsLemmas.{idle_is}
-use Rattle.plugd.proofs.DoneLemmas.{so_far, of_change, share, IsFit, is_fit, fit_prepared, fit_logged, fit_committed}
+use Rattle.plugd.proofs.ChangedLemmas.{changed_state, with_changes-begun}
+use Rattle.plugd.proofs.SpellLemmas.{of_changes}
+use Rattle.plugd.proofs.DoneLemmas.{so_far, share, IsFit, is_fit, fit_prepared, fit_logged, fit_committed}
 
 -- a log at rest has its transactions and no other
 pub rest_logged : (log : Binlog) (list : List Transaction) (file : File) → IsLog log list file → IsLogged file.bytes list
@@ -72,44 +75,46 @@ no_none e = cc
 some_same : {X : Type 0} {x y : X} → Some x ≡ Some y → x ≡ y
 some_same e = cc
 
--- the engine has prepared the change: its state
-pub prepared_is_state : (past : Past) (idle : EngineState) (asks : Command) (it : Change) (xid : ℕ) (core : Core) → IsReadyToLog past idle asks it xid core
-    → core.engine.state ≡ prepared_state session xid (with_change session it (begun_state idle.gist))
-prepared_is_state past idle asks it xid core ready = ready.state ∙ ap (λ (s : EngineState). prepared_state session xid (with_change session it s)) (idle_is idle past.state ready.way.was_idle)
+-- the engine has prepared the changes: its state
+pub prepared_is_state : (past : Past) (idle : EngineState) (asks : Command) (changes : List Change) (xid : ℕ) (core : Core) → IsReadyToLog past idle asks changes xid core
+    → core.engine.state ≡ prepared_state session xid (changed_state session changes idle.gist)
+prepared_is_state past idle asks changes xid core ready =
+    ready.state ∙ ap (λ (s : EngineState). prepared_state session xid (with_changes session changes s)) (idle_is idle past.state ready.way.was_idle)
+    ∙ ap (prepared_state session xid) (with_changes-begun session changes idle.gist ready.granted.makes.some)
 
 -- its images read as the gist with the share
-pub ready_kept : (past : Past) (idle : EngineState) (asks : Command) (it : Change) (xid : ℕ) (core : Core) → IsReadyToLog past idle asks it xid core → core.engine.state.kept ≡ after_prepare (share xid it) idle.gist ∷ []
-ready_kept past idle asks it xid core ready = ap (λ (s : EngineState). s.kept) (prepared_is_state past idle asks it xid core ready)
+pub ready_kept : (past : Past) (idle : EngineState) (asks : Command) (changes : List Change) (xid : ℕ) (core : Core) → IsReadyToLog past idle asks changes xid core → core.engine.state.kept ≡ after_prepare (share xid changes) idle.gist ∷ []
+ready_kept past idle asks changes xid core ready = ap (λ (s : EngineState). s.kept) (prepared_is_state past idle asks changes xid core ready)
 
--- and behind a commit as the gist that has the change
-pub committed_kept : (past : Past) (idle : EngineState) (asks : Command) (it : Change) (xid number : ℕ) (core : Core) → IsReadyToLog past idle asks it xid core
-    → (committed_state session xid number core.engine.state).kept ≡ after_commit (share xid it) number (after_prepare (share xid it) idle.gist) ∷ []
-committed_kept past idle asks it xid number core ready = ap (λ (s : EngineState). (committed_state session xid number s).kept) (prepared_is_state past idle asks it xid core ready)
+-- and behind a commit as the gist that has the changes
+pub committed_kept : (past : Past) (idle : EngineState) (asks : Command) (changes : List Change) (xid number : ℕ) (core : Core) → IsReadyToLog past idle asks changes xid core
+    → (committed_state session xid number core.engine.state).kept ≡ after_commit (share xid changes) number (after_prepare (share xid changes) idle.gist) ∷ []
+committed_kept past idle asks changes xid number core ready = ap (λ (s : EngineState). (committed_state session xid number s).kept) (prepared_is_state past idle asks changes xid core ready)
 
 -- what is known of it over a volume that could be recovered
-pub ready_fit : (past : Past) (idle : EngineState) (asks : Command) (it : Change) (xid : ℕ) (core : Core) → is_prepared_for asks ≡ true → IsReadyToLog past idle asks it xid core
-    → IsTrue past.base.start.told → CouldRecover past.base core.engine → IsFit past core idle.gist it xid
-ready_fit past idle asks it xid core touches ready told could = is_fit past idle asks it (past.state.given ++ xid ∷ []) core xid touches ready.way ready.granted ready.next told could
+pub ready_fit : (past : Past) (idle : EngineState) (asks : Command) (changes : List Change) (xid : ℕ) (core : Core) → is_prepared_for asks ≡ true → IsReadyToLog past idle asks changes xid core
+    → IsTrue past.base.start.told → CouldRecover past.base core.engine → IsFit past core idle.gist changes xid
+ready_fit past idle asks changes xid core touches ready told could = is_fit past idle asks changes (past.state.given ++ xid ∷ []) core xid touches ready.way ready.granted ready.next told could
 
 -- What the write and the sync of the transaction did.
-pub logs_ready : (past : Past) (idle : EngineState) (asks : Command) (it : Change) (xid : ℕ) (core : Core) (disk : Disk) → is_prepared_for asks ≡ true → IsReadyToLog past idle asks it xid core → GoesOn core.disk disk
-    → (IsTrue core.disk.told → Keeps core.disk disk (Only 0 (now core.disk) (Holds (so_far past) (so_far past ++ of_change xid it ∷ []))))
-    → Logs past.base (so_far past) (of_change xid it) core (after_prepare (share xid it) idle.gist) disk
-logs_ready past idle asks it xid core disk touches ready on moments = record {
+pub logs_ready : (past : Past) (idle : EngineState) (asks : Command) (changes : List Change) (xid : ℕ) (core : Core) (disk : Disk) → is_prepared_for asks ≡ true → IsReadyToLog past idle asks changes xid core → GoesOn core.disk disk
+    → (IsTrue core.disk.told → Keeps core.disk disk (Only 0 (now core.disk) (Holds (so_far past) (so_far past ++ of_changes xid changes ∷ []))))
+    → Logs past.base (so_far past) (of_changes xid changes) core (after_prepare (share xid changes) idle.gist) disk
+logs_ready past idle asks changes xid core disk touches ready on moments = record {
   on = on;
   apart = ready.way.ahead.fixed.kind.apart;
   front = (past.state.asked, refl);
   moments = moments;
-  reads = λ told. subst (λ (l : List Gist). EachReads core.engine.reading l (map (now core.disk) core.engine.kind.files)) (ready_kept past idle asks it xid core ready) (ready.way.rest (first told)).at_work.reads;
-  goes = λ told could. let fit = ready_fit past idle asks it xid core touches ready (first told) could in (fit_prepared past core idle.gist it xid fit, fit_logged past core idle.gist it xid fit);
+  reads = λ told. subst (λ (l : List Gist). EachReads core.engine.reading l (map (now core.disk) core.engine.kind.files)) (ready_kept past idle asks changes xid core ready) (ready.way.rest (first told)).at_work.reads;
+  goes = λ told could. let fit = ready_fit past idle asks changes xid core touches ready (first told) could in (fit_prepared past core idle.gist changes xid fit, fit_logged past core idle.gist changes xid fit);
 }
   where
     first : IsTrue core.disk.told → IsTrue past.base.start.told
     first told = subst IsTrue ready.way.ahead.stopped.secure.told told
 
 -- a transaction by the rules
-pub asked_by : (past : Past) (asks : Command) (it : Change) (xid : ℕ) → IsGranted past asks it → IsNextGiven (rules_of past.base) past.state xid → IsAskedBy (rules_of past.base) past.state asks (of_change xid it)
-asked_by past asks it xid granted next = record { change = it; made = granted.makes; changes = refl; xid = next }
+pub asked_by : (past : Past) (asks : Command) (changes : List Change) (xid : ℕ) → IsGranted past asks changes → IsNextGiven (rules_of past.base) past.state xid → IsAskedBy (rules_of past.base) past.state asks (of_changes xid changes)
+asked_by past asks changes xid granted next = record { made = granted.makes; xid = next }
 
 pub prepared_statement : (asks : Command) → is_prepared_for asks ≡ true → IsStatement asks
 prepared_statement asks is = go asks is
@@ -122,19 +127,19 @@ prepared_statement asks is = go asks is
     go (command.Insert key text) e = tt
 
 -- A fault at the transaction, which may be in the log, halts the run.
-pub halted_at_it : (past : Past) (asks : Command) (it : Change) (xid : ℕ) (was core : Core) (cause : HaltCause) → IsStatement asks → IsAhead past was → IsGranted past asks it → IsNextGiven (rules_of past.base) past.state xid
-    → past.state.len + logged_size (it ∷ []) ≤ past.base.limit
+pub halted_at_it : (past : Past) (asks : Command) (changes : List Change) (xid : ℕ) (was core : Core) (cause : HaltCause) → IsStatement asks → IsAhead past was → IsGranted past asks changes → IsNextGiven (rules_of past.base) past.state xid
+    → past.state.len + logged_size changes ≤ past.base.limit
     → core.server.acks.items ≡ was.server.acks.items → core.server.lines ≡ was.server.lines → core.server.limit ≡ was.server.limit → core.server.seen ≡ was.server.seen → core.engine.kind ≡ was.engine.kind
-    → Secure past.base (so_far past ++ of_change xid it ∷ []) core → IsCause past.base core.engine.kind core.disk cause
+    → Secure past.base (so_far past ++ of_changes xid changes ∷ []) core → IsCause past.base core.engine.kind core.disk cause
     → PlaysTo past asks (Halted cause) (record { server = with_halt cause core.server; engine = core.engine; disk = core.disk })
-halted_at_it past asks it xid was core cause statement ahead granted next room acks lines limit seen kind secure is line asks_so = record {
+halted_at_it past asks changes xid was core cause statement ahead granted next room acks lines limit seen kind secure is line asks_so = record {
   state = after;
   fixed = record { kind = subst (λ k. IsJournal k) (sym kind) ahead.fixed.kind; limit = limit ∙ ahead.fixed.limit; small = ahead.fixed.small };
   line = omega (arith, ahead.line, length-append past.lines (line ∷ []));
   stopped = record {
     secure = record { told = s.told; later = s.later; no_fewer = s.no_fewer; safe = s.safe; sound = s.sound; in_time = s.in_time; opened = s.opened };
     plays = plays_push (rules_of past.base) past.base.first past.lines past.replies past.state line (Halted cause ∷ []) after ahead.stopped.plays
-        (fails_at asks (record { asks_so = asks_so; statement = statement; serves = ahead.is_serving }) granted.granted (of_change xid it) (asked_by past asks it xid granted next) room cause refl refl);
+        (fails_at asks (record { asks_so = asks_so; statement = statement; serves = ahead.is_serving }) granted.granted (of_changes xid changes) (asked_by past asks changes xid granted next) room cause refl refl);
     numbers = numbers_same past.replies (Halted cause ∷ []) _ refl (ap (map (λ (ack : Ack). ack.number)) acks ∙ ahead.stopped.numbers);
     cause = λ c some. subst (IsCause past.base core.engine.kind core.disk) (some_same some) is;
     count = ahead.stopped.count;
@@ -154,22 +159,22 @@ halted_at_it past asks it xid was core cause statement ahead granted next room a
 }
   where
     after : State
-    after = halted_at cause (Some (of_change xid it)) past.state
+    after = halted_at cause (Some (of_changes xid changes)) past.state
 
     s : Secure past.base (all_of past.base.found after) core
-    s = subst (λ (all : List Transaction). Secure past.base all core) (more_of past.base.found past.state.asked (of_change xid it)) secure
+    s = subst (λ (all : List Transaction). Secure past.base all core) (more_of past.base.found past.state.asked (of_changes xid changes)) secure
 
 -- What stands behind the commit of the transaction in the engine, and its acknowledgement.
-pub record IsDone (past : Past) (idle : EngineState) (asks : Command) (it : Change) (xid : ℕ) (was : Core) (core : Core) : Type 0 where
-  pub ready : IsReadyToLog past idle asks it xid was
+pub record IsDone (past : Past) (idle : EngineState) (asks : Command) (changes : List Change) (xid : ℕ) (was : Core) (core : Core) : Type 0 where
+  pub ready : IsReadyToLog past idle asks changes xid was
   pub touches : is_prepared_for asks ≡ true
-  pub room : past.state.len + logged_size (it ∷ []) ≤ past.base.limit
-  pub secure : Secure past.base (so_far past ++ of_change xid it ∷ []) core
+  pub room : past.state.len + logged_size changes ≤ past.base.limit
+  pub secure : Secure past.base (so_far past ++ of_changes xid changes ∷ []) core
   pub kind : core.engine.kind ≡ was.engine.kind
   pub reading : SameReading was.engine.reading core.engine.reading
   pub state : core.engine.state ≡ committed_state session xid (past.state.count + 1) was.engine.state
   pub work : IsTrue core.disk.told → IsAtWork core.engine (now core.disk)
-  pub durable : IsTrue core.disk.told → IsDurable core.server.log (so_far past ++ of_change xid it ∷ []) core.disk
+  pub durable : IsTrue core.disk.told → IsDurable core.server.log (so_far past ++ of_changes xid changes ∷ []) core.disk
   pub xids : core.server.xids ≡ was.server.xids
   pub acks : core.server.acks.items ≡ was.server.acks.items ++ (record { number = past.state.count + 1; call = core.disk.calls }) ∷ []
   pub seen : core.server.seen ≡ seen_after asks was.server.seen
@@ -177,13 +182,13 @@ pub record IsDone (past : Past) (idle : EngineState) (asks : Command) (it : Chan
   pub limit : core.server.limit ≡ was.server.limit
   pub halted : core.server.halted ≡ None
   pub count : flushed_of core.server.log ≡ past.state.count + 1
-  pub len : end_in core.server.log ≡ past.state.len + logged_size (it ∷ [])
+  pub len : end_in core.server.log ≡ past.state.len + logged_size changes
 
 -- the engine behind the commit
-after_of : (past : Past) (idle : EngineState) (asks : Command) (it : Change) (xid : ℕ) (was core : Core) → IsDone past idle asks it xid was core
-    → core.engine.state ≡ begun_state (after_commit (share xid it) (past.state.count + 1) (after_prepare (share xid it) idle.gist))
-after_of past idle asks it xid was core d =
-    d.state ∙ ap (committed_state session xid (past.state.count + 1)) (prepared_is_state past idle asks it xid was d.ready)
+after_of : (past : Past) (idle : EngineState) (asks : Command) (changes : List Change) (xid : ℕ) (was core : Core) → IsDone past idle asks changes xid was core
+    → core.engine.state ≡ begun_state (after_commit (share xid changes) (past.state.count + 1) (after_prepare (share xid changes) idle.gist))
+after_of past idle asks changes xid was core d =
+    d.state ∙ ap (committed_state session xid (past.state.count + 1)) (prepared_is_state past idle asks changes xid was d.ready)
 
 -- what it noted of the catalog
 made_after : (asks : Command) (seen : Seen) (here : Catalog) → is_prepared_for asks ≡ true → seen.made ≡ here.made → (seen_after asks seen).made ≡ (after_command asks here).made
@@ -208,15 +213,15 @@ abbrev engine_as : Kind → Gist → List SafeEngine
 engine_as kind gist = (record { engine = kind.name; allows = allows kind.flags; gist = gist }) ∷ []
 
 -- The line ends with its acknowledgement.
-pub done_now : (past : Past) (idle : EngineState) (asks : Command) (it : Change) (xid : ℕ) (was core : Core) → IsDone past idle asks it xid was core → PlaysTo past asks (Done (count_of asks) (past.state.count + 1)) core
-done_now past idle asks it xid was core d line asks_so = record {
+pub done_now : (past : Past) (idle : EngineState) (asks : Command) (changes : List Change) (xid : ℕ) (was core : Core) → IsDone past idle asks changes xid was core → PlaysTo past asks (Done (count_of asks) (past.state.count + 1)) core
+done_now past idle asks changes xid was core d line asks_so = record {
   state = after;
   fixed = record { kind = subst (λ k. IsJournal k) (sym d.kind) ahead.fixed.kind; limit = d.limit ∙ ahead.fixed.limit; small = ahead.fixed.small };
   line = omega (arith, ahead.line, length-append past.lines (line ∷ []));
   stopped = record {
     secure = subst (λ (all : List Transaction). Secure past.base all core) (joined ∙ ap (λ (l : List Transaction). past.base.found ++ l) (sym (append-nil (past.state.asked ++ t ∷ [])))) d.secure;
     plays = plays_push (rules_of past.base) past.base.first past.lines past.replies past.state line (reply ∷ []) after ahead.stopped.plays
-        (logs asks (record { asks_so = asks_so; statement = prepared_statement asks d.touches; serves = ahead.is_serving }) d.ready.granted.granted t (asked_by past asks it xid d.ready.granted d.ready.next) d.room refl refl);
+        (logs asks (record { asks_so = asks_so; statement = prepared_statement asks d.touches; serves = ahead.is_serving }) d.ready.granted.granted t (asked_by past asks changes xid d.ready.granted d.ready.next) d.room refl refl);
     numbers = ap (map (λ (a : Ack). a.number)) d.acks ∙ map-append (λ (a : Ack). a.number) was.server.acks.items (ack ∷ []) ∙ ap (λ (l : List ℕ). l ++ (past.state.count + 1) ∷ []) ahead.stopped.numbers
         ∙ sym (numbers-append past.replies (reply ∷ []));
     cause = λ c some. absurd (no_none (sym some));
@@ -235,15 +240,15 @@ done_now past idle asks it xid was core d line asks_so = record {
   idle = λ none. subst (λ (s : EngineState). IsIdle s after) (sym state_is) (record {
     pending = refl;
     kept = refl;
-    none_prepared = none_left xid idle.gist (share xid it) d.ready.way.was_idle.none_prepared refl;
-    live = ap (after_change it) d.ready.way.was_idle.live ∙ sym (live_goes past.state.catalog asks it d.touches d.ready.granted.makes);
+    none_prepared = none_left xid idle.gist (share xid changes) d.ready.way.was_idle.none_prepared refl;
+    live = ap (after_changes changes) d.ready.way.was_idle.live ∙ ap (λ (l : List Change). after_changes l past.state.catalog.live) d.ready.granted.makes.all ∙ sym (live_goes past.state.catalog asks);
     last = omega arith;
   });
   rest = λ told none. rest_now told;
 }
   where
     t : Transaction
-    t = of_change xid it
+    t = of_changes xid changes
 
     ahead : IsAhead past was
     ahead = d.ready.way.ahead
@@ -261,10 +266,10 @@ done_now past idle asks it xid was core d line asks_so = record {
     joined = more_of past.base.found past.state.asked t
 
     gist : Gist
-    gist = after_commit (share xid it) (past.state.count + 1) (after_prepare (share xid it) idle.gist)
+    gist = after_commit (share xid changes) (past.state.count + 1) (after_prepare (share xid changes) idle.gist)
 
     state_is : core.engine.state ≡ begun_state gist
-    state_is = after_of past idle asks it xid was core d
+    state_is = after_of past idle asks changes xid was core d
 
     told_now : IsTrue past.base.start.told → IsTrue core.disk.told
     told_now told = subst IsTrue (sym d.secure.told) told
@@ -275,11 +280,11 @@ done_now past idle asks it xid was core d line asks_so = record {
         let number : past.state.count + 1 ≡ suc (length (so_far past)) = omega (arith, count, length-append past.base.found past.state.asked) in
         let before = volume_same (shelf_of was.engine) was.engine.kind core.engine.reading was.engine.reading past.base.start (same_back was.engine.reading core.engine.reading d.reading)
         (subst (λ (k : Kind). IsRecoverableVolume (shelf_as k) (read_by k core.engine.reading) past.base.start) d.kind could) in
-        let fit = ready_fit past idle asks it xid was d.touches d.ready told before in
-        subst (λ (n : ℕ). IsRecovered (shelf_as core.engine.kind) (past.base.found ++ (past.state.asked ++ t ∷ [])) (engine_as core.engine.kind (after_commit (share xid it) n (after_prepare (share xid it) idle.gist)))) (sym number)
-        (subst (λ (l : List Transaction). IsRecovered (shelf_as core.engine.kind) l (engine_as core.engine.kind (after_commit (share xid it) (suc (length (so_far past))) (after_prepare (share xid it) idle.gist)))) joined
-        (subst (λ (k : Kind). IsRecovered (shelf_as k) (so_far past ++ t ∷ []) (engine_as k (after_commit (share xid it) (suc (length (so_far past))) (after_prepare (share xid it) idle.gist)))) (sym d.kind)
-        (fit_committed past was idle.gist it xid fit)))
+        let fit = ready_fit past idle asks changes xid was d.touches d.ready told before in
+        subst (λ (n : ℕ). IsRecovered (shelf_as core.engine.kind) (past.base.found ++ (past.state.asked ++ t ∷ [])) (engine_as core.engine.kind (after_commit (share xid changes) n (after_prepare (share xid changes) idle.gist)))) (sym number)
+        (subst (λ (l : List Transaction). IsRecovered (shelf_as core.engine.kind) l (engine_as core.engine.kind (after_commit (share xid changes) (suc (length (so_far past))) (after_prepare (share xid changes) idle.gist)))) joined
+        (subst (λ (k : Kind). IsRecovered (shelf_as k) (so_far past ++ t ∷ []) (engine_as k (after_commit (share xid changes) (suc (length (so_far past))) (after_prepare (share xid changes) idle.gist)))) (sym d.kind)
+        (fit_committed past was idle.gist changes xid fit)))
 
     rest_now : IsTrue past.base.start.told → IsAtRest past.base core core.engine.state.gist after after.given
     rest_now told =
@@ -290,7 +295,7 @@ done_now past idle asks it xid was core d line asks_so = record {
           knows = subst (λ (set : XidSet). Knows set (xids_of past.base.found ++ (past.state.given ++ xid ∷ []))) (sym d.xids) r.knows;
           asked_given = λ x on. ⊎_elim (λ old. Contains-append_left past.state.given (xid ∷ []) x (r.asked_given x old)) (λ new. Contains-append_right past.state.given (xid ∷ []) x new)
               (Contains-append_cases (xids_of past.state.asked) (xid ∷ []) x (subst (λ (l : List ℕ). Contains l x) (map-append (λ (u : Transaction). u.xid) past.state.asked (t ∷ [])) on));
-          catalog = subst (λ (l : List Transaction). IsCatalogOf l (after_command asks past.state.catalog)) joined (catalog_goes (so_far past) t past.state.catalog asks it refl r.catalog d.ready.granted.makes);
+          catalog = subst (λ (l : List Transaction). IsCatalogOf l (after_command asks past.state.catalog)) joined (catalog_goes (so_far past) t past.state.catalog asks d.ready.granted.makes.all r.catalog);
           at_work = d.work (told_now told);
           recovered = λ could. subst (λ (g : Gist). IsRecovered (shelf_of core.engine) (past.base.found ++ (past.state.asked ++ t ∷ [])) (with_gists (reader_of core.engine ∷ []) (g ∷ []))) (sym gist_is) (recovered_after told could);
         }

@@ -1,5 +1,5 @@
 -- A CREATE and an INSERT that go to the engine, by its answer.
-use Rattle.std.proofs.Common.{◌≡◌, ⊎_elim, ℕ, ℤ, ◌≤◌, List, [], ◌∷◌, Option, Some, None, Bool, false, cond, Result, Ok, Err, OnErr, IsTrue, refl, sym, ◌∙◌, ap, subst}
+use Rattle.std.proofs.Common.{◌≡◌, ⊎_elim, ℕ, ℤ, ◌≤◌, List, [], ◌∷◌, length, Option, Some, None, Bool, false, cond, Result, Ok, Err, OnErr, IsTrue, refl, sym, ◌∙◌, ap, subst, arith}
 use Rattle.std.specs.Prelude.{Contains}
 use Rattle.std.specs.declared.alloc.AllocError.{AllocError}
 use Rattle.disk_model.specs.File.{File}
@@ -10,11 +10,11 @@ use Rattle.sql_value.specs.declared.refusal.Refusal.TheVariants.{DuplicateEntry,
 use Rattle.row_format.specs.declared.schema.Schema.{Schema}
 use Rattle.row_format.specs.declared.change.Change.{Change}
 use Rattle.row_format.specs.declared.change.Change.TheVariants as change
-use Rattle.row_format.specs.Changes.{IsFitChange}
+use Rattle.row_format.specs.Changes.{IsFitChange, AreFitChanges}
 use Rattle.row_format.specs.Rows.{IsRow, row_refusal, first_of_two}
 use Rattle.log_tables.specs.declared.table.Table.{Table}
 use Rattle.log_tables.specs.Tables.{table_named}
-use Rattle.log_tables.specs.Changes.{after_change}
+use Rattle.log_tables.specs.Changes.{after_change, after_changes}
 use Rattle.engine_api.specs.declared.fault.Code.{Code}
 use Rattle.engine_api.specs.declared.fault.Code.TheVariants.{Duplicate, Full}
 use Rattle.engine_api.specs.declared.fault.EngineFault.{EngineFault}
@@ -28,15 +28,17 @@ use Rattle.plugd.specs.declared.command.Command.TheVariants as command
 use Rattle.plugd.specs.declared.reply.HaltCause.{HaltCause}
 use Rattle.plugd.specs.declared.statement.Executed.{Executed}
 use Rattle.plugd.specs.declared.statement.Executed.TheVariants as executed
-use Rattle.plugd.specs.Asked.{engine_name, table_name, table_schema, row_of, full_unless_room, refusal_of, after_some, after_command, create_refusal, table_refusal}
+use Rattle.plugd.specs.Asked.{engine_name, table_name, table_schema, row_of, full_unless_room, refusal_of, after_command, create_refusal, table_refusal}
+use Rattle.plugd.specs.Changed.{with_changes}
 use Rattle.plugd.specs.Serve.{session, Core, IsIdle}
 use Rattle.plugd.specs.Spell.{cause_by, refusal_by}
 use Rattle.plugd.specs.Way.{Past, IsOnWay, Executes, EndsAt}
 use Rattle.plugd.proofs.AheadLemmas.{core_of}
+use Rattle.plugd.proofs.AskedLemmas.{insert_asked}
 use Rattle.plugd.proofs.StepLemmas.{Turned, turned_way, turned_halts, turned_ahead}
 use Rattle.plugd.proofs.WayLemmas.{ends_now}
 use Rattle.plugd.proofs.NotedLemmas.{noted_on_way, idle_live, changed_live, room_is, full_is}
-use Rattle.plugd.proofs.ExecuteLemmas.{EachWay, RefusesBy, ExecutesBy, live_is, table_found, create_rest, insert_rest}
+use Rattle.plugd.proofs.ExecuteLemmas.{EachWay, RefusesBy, ExecutesBy, granted_now, live_is, table_found, create_rest, insert_rest}
 
 -- the statement goes on over a call without a device, by which the images stay
 noted_way : (past : Past) (core : Core) (kind : Kind) (reading : Reading) (after : EngineState) (holds : List File → Type 0) → IsOnWay past core.engine.state past.state.given core
@@ -65,20 +67,16 @@ create_executed core value table schema live changes kind reading after holds na
     let it_is₂ : change.Create table engine_name schema ≡ change.Create table_name engine_name table_schema =
     ap (λ (n : List ℕ). change.Create n engine_name schema) name ∙ ap (λ (s : Schema). change.Create table_name engine_name s) schema_is in
     let state_is : after ≡ with_change session (change.Create table_name engine_name table_schema) core.engine.state =
-    notes.ok ∙ ap (λ (c : Change). with_change session c core.engine.state) it_is in (
-      change.Create table_name engine_name table_schema,
-      one ∙ ap (λ (c : Change). c ∷ []) it_is₂,
-      record {
-        way = noted_way past core kind reading after holds way same (ap (λ (s : EngineState). s.kept) state_is) notes.files;
-        granted = record {
-          makes = refl;
-          granted = create_rest core table live name live_is why past way ∙ room_is (after_command command.Create past.state.catalog).live
-              (subst (λ (l : List Table). live_bytes l ≤ live_limit) (ap live_tables state_is ∙ changed_live core.engine.state past (change.Create table_name engine_name table_schema) way.was_idle) room);
-          fit = subst IsFitChange it_is₂ fit;
-        };
-        state = state_is;
-      },
-    )
+    notes.ok ∙ ap (λ (c : Change). with_change session c core.engine.state) it_is in
+    let all : changes ≡ change.Create table_name engine_name table_schema ∷ [] = one ∙ ap (λ (c : Change). c ∷ []) it_is₂ in
+    record {
+      way = noted_way past core kind reading after holds way same (ap (λ (s : EngineState). s.kept) state_is) notes.files;
+      granted = granted_now past command.Create changes (record { all = all; some = omega (arith, ap length all) })
+          (create_rest core table live name live_is why past way ∙ room_is (after_command command.Create past.state.catalog).live
+          (subst (λ (l : List Table). live_bytes l ≤ live_limit) (ap live_tables state_is ∙ changed_live core.engine.state past (change.Create table_name engine_name table_schema) way.was_idle) room))
+          (subst AreFitChanges (sym all) (subst IsFitChange it_is₂ fit, tt));
+      state = state_is ∙ ap (λ (l : List Change). with_changes session l core.engine.state) (sym all);
+    }
 
 -- only that the engine is full refuses a CREATE
 only_full : (it : EngineFault) (code : Code) → it ≡ fault.Code code → MayComeAlone (Full ∷ []) it → code ≡ Full
@@ -159,7 +157,7 @@ wrote_is state key text table row live name row_is is found =
 -- what its tables are then
 insert_after : (past : Past) (key : ℤ) (text : List ℕ) → schema_found (table_named table_name past.state.catalog.live) ≡ Some table_schema
     → (after_command (command.Insert key text) past.state.catalog).live ≡ after_change (insert_of key text) past.state.catalog.live
-insert_after past key text found = ap (λ (o : Option Schema). after_some (insert_into table_name o (row_of key text)) past.state.catalog.live) found
+insert_after past key text found = ap (λ (l : List Change). after_changes l past.state.catalog.live) (insert_asked past.state.catalog key text table_schema found)
 
 -- What is known where a row goes to the engine.
 pub record GoesIn (core : Core) (key : ℤ) (text table : List ℕ) (row : List Value) : Type 0 where
@@ -214,22 +212,18 @@ pub insert_executed : (core : Core) {T : Type 0} (value : T) (key : ℤ) (text t
     → EachWay core (ExecutesBy (command.Insert key text) core (core_of core.server kind reading after holds disk) changes)
 insert_executed core value key text table row changes after kind reading holds disk is fit same turns free room one past way =
     let d = decides_of core key text table row is past way in
-    let found = sym (live_is core past table is.live is.name is.live_is way.was_idle) ∙ goes_found core key text table row is in (
-      insert_of key text,
-      one,
-      record {
-        way = turned_way past core.engine.state past.state.given core (Ok value) (wrote_state session table row core.engine.state) after kind reading holds disk core.engine.state.gist core.engine.state.gist
-            (write_turned past core (Ok value) table row after kind reading holds disk way same turns) tt;
-        granted = record {
-          makes = ap (λ (o : Option Schema). insert_into table_name o (row_of key text)) found;
-          granted = d.2 ∙ ap (λ (b : Bool). cond b (Some DuplicateEntry) (full_unless_room (after_command (command.Insert key text) past.state.catalog).live)) (sym (taken_as core key text table row past d.0 is way.was_idle d.1) ∙ free)
-              ∙ room_is (after_command (command.Insert key text) past.state.catalog).live
-              (subst (λ (l : List Table). live_bytes l ≤ live_limit) (ap live_tables turns.ok ∙ room_as core key text table row is past way) room);
-          fit = fit;
-        };
-        state = turns.ok ∙ wrote_is core.engine.state key text table row is.live is.name is.row_is is.live_is (goes_found core key text table row is);
-      },
-    )
+    let found = sym (live_is core past table is.live is.name is.live_is way.was_idle) ∙ goes_found core key text table row is in
+    record {
+      way = turned_way past core.engine.state past.state.given core (Ok value) (wrote_state session table row core.engine.state) after kind reading holds disk core.engine.state.gist core.engine.state.gist
+          (write_turned past core (Ok value) table row after kind reading holds disk way same turns) tt;
+      granted = granted_now past (command.Insert key text) changes (record { all = one ∙ sym (insert_asked past.state.catalog key text table_schema found); some = omega (arith, ap length one) })
+          (d.2 ∙ ap (λ (b : Bool). cond b (Some DuplicateEntry) (full_unless_room (after_command (command.Insert key text) past.state.catalog).live)) (sym (taken_as core key text table row past d.0 is way.was_idle d.1) ∙ free)
+          ∙ room_is (after_command (command.Insert key text) past.state.catalog).live
+          (subst (λ (l : List Table). live_bytes l ≤ live_limit) (ap live_tables turns.ok ∙ room_as core key text table row is past way) room))
+          (subst AreFitChanges (sym one) (fit, tt));
+      state = turns.ok ∙ wrote_is core.engine.state key text table row is.live is.name is.row_is is.live_is (goes_found core key text table row is)
+          ∙ ap (λ (l : List Change). with_changes session l core.engine.state) (sym one);
+    }
 
 -- the row is in, and then no memory was left
 pub insert_unsaid : (core : Core) {T : Type 0} (value : T) (table : List ℕ) (row : List Value) (after : EngineState) (kind : Kind) (reading : Reading) (holds : List File → Type 0) (disk : Disk)

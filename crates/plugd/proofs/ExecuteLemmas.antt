@@ -1,5 +1,5 @@
 -- The execution of a statement, by its outcome.
-use Rattle.std.proofs.Common.{◌≡◌, ℕ, ℤ, List, [], ◌∷◌, Option, Some, None, Bool, true, false, cond, Result, Ok, refl, sym, ◌∙◌, ap, subst}
+use Rattle.std.proofs.Common.{◌≡◌, ℕ, ℤ, ◌<◌, ◌^◌, List, [], ◌∷◌, length, Option, Some, None, Bool, true, false, cond, Result, Ok, refl, sym, ◌∙◌, ap, subst, arith}
 use Rattle.std.specs.Prelude.{IsErr, is_some, ◌||◌}
 use Rattle.std.specs.List.{list_any}
 use Rattle.std.specs.declared.alloc.AllocError.{AllocError}
@@ -9,25 +9,26 @@ use Rattle.sql_value.specs.declared.refusal.Refusal.TheVariants.{NoSuchTable, Ta
 use Rattle.row_format.specs.declared.schema.Schema.{Schema}
 use Rattle.row_format.specs.declared.change.Change.{Change}
 use Rattle.row_format.specs.declared.change.Change.TheVariants as change
-use Rattle.row_format.specs.Changes.{IsFitChange}
+use Rattle.row_format.specs.Changes.{IsFitChange, AreFitChanges}
 use Rattle.row_format.specs.Rows.{row_refusal, first_of_two}
 use Rattle.row_format.specs.Schemas.{same_schema}
 use Rattle.row_format.proofs.SameLemmas.{same_schema_refl, same_schema-true}
 use Rattle.log_tables.specs.declared.gist.Prepared.{Prepared}
 use Rattle.log_tables.specs.declared.table.Table.{Table}
 use Rattle.log_tables.specs.Tables.{table_named}
-use Rattle.engine_api.specs.declared.flags.Flags.{Flags}
-use Rattle.engine_api.specs.States.{Kind, EngineState, Pending, without_txn, changes_in}
-use Rattle.engine_api.specs.Live.{allows, live_schema, schema_found, is_taken_in, meets_any, is_under, IsApart}
+use Rattle.engine_api.specs.States.{EngineState, Pending, without_txn, changes_in}
+use Rattle.engine_api.specs.Live.{live_schema, schema_found, is_taken_in, meets_any, is_under, IsApart}
 use Rattle.plugd.specs.declared.command.Command.{Command}
 use Rattle.plugd.specs.declared.command.Command.TheVariants as command
 use Rattle.plugd.specs.declared.statement.Executed.{Executed}
 use Rattle.plugd.specs.declared.statement.Executed.TheVariants as executed
 use Rattle.plugd.specs.Asked.{engine_name, table_name, table_schema, row_of, refused_unless, full_unless_room, insert_refusal, refusal_of, after_command, create_refusal, table_refusal}
-use Rattle.plugd.specs.Serve.{session, Core, IsIdle, IsJournal}
-use Rattle.plugd.specs.Way.{Past, IsOnWay, IsExecuted, Executes, EndsAt}
+use Rattle.plugd.specs.Play.{Makes}
+use Rattle.plugd.specs.Serve.{session, Core, IsIdle}
+use Rattle.plugd.specs.Way.{Past, IsOnWay, CanLog, IsGranted, IsExecuted, Executes, EndsAt}
 use Rattle.plugd.proofs.StepLemmas.{by_err}
 use Rattle.plugd.proofs.WayLemmas.{ends_now}
+use Rattle.plugd.proofs.AskedLemmas.{granted_own, asked_few, asked_suits}
 use Rattle.plugd.proofs.CallsLemmas.{idle_is}
 use Rattle.plugd.proofs.NotedLemmas.{idle_live}
 
@@ -41,7 +42,20 @@ RefusesBy asks old new refusal past = (refusal_of asks past.state.catalog ≡ So
 
 -- an execution, which makes these changes
 abbrev pub ExecutesBy : Command → Core → Core → List Change → Past → Type 0
-ExecutesBy asks old new changes past = (it : Change) × (changes ≡ it ∷ []) × IsExecuted past old.engine.state asks it past.state.given new
+ExecutesBy asks old new changes past = IsExecuted past old.engine.state asks changes past.state.given new
+
+-- A command that is not refused makes changes that can be spelt and logged, where they are some and fit.
+pub granted_now : (past : Past) (asks : Command) (changes : List Change) → Makes asks past.state changes → refusal_of asks past.state.catalog ≡ None → AreFitChanges changes → IsGranted past asks changes
+granted_now past asks changes makes granted fit = record {
+  makes = makes;
+  granted = granted;
+  fit = fit;
+  few = subst (λ (l : List Change). length l < 2 ^ 31) (sym makes.all) (asked_few asks past.state.catalog);
+  can = subst (CanLog past.state.catalog asks) (sym makes.all) (record {
+    suits = λ kind is. asked_suits asks past.state.catalog kind is;
+    own = λ touches log is live. granted_own log past.state.catalog asks touches is live granted;
+  });
+}
 
 pub executes_refused : (asks : Command) (old new : Core) (refusal : Refusal) → EachWay old (RefusesBy asks old new refusal) → Executes asks old new (Ok (executed.Refused refusal))
 executes_refused asks old new refusal each = record {
@@ -80,15 +94,12 @@ install_refused old there past way =
 -- an INSTALL is executed
 pub install_executed : (old : Core) (changes : List Change) → old.server.seen.installed ≡ false → changes ≡ change.Install engine_name ∷ [] → IsFitChange (change.Install engine_name)
     → EachWay old (ExecutesBy command.Install old old changes)
-install_executed old changes there one fit past way = (
-  change.Install engine_name,
-  one,
-  record {
-    way = way;
-    granted = record { makes = refl; granted = ap (λ (b : Bool). cond b (Some PluginInstalled) None) (sym way.ahead.installed ∙ there); fit = fit };
-    state = refl;
-  },
-)
+install_executed old changes there all fit past way = record {
+  way = way;
+  granted = granted_now past command.Install changes (record { all = all; some = omega (arith, ap length all) }) (ap (λ (b : Bool). cond b (Some PluginInstalled) None) (sym way.ahead.installed ∙ there))
+      (subst AreFitChanges (sym all) (fit, tt));
+  state = refl;
+}
 
 -- an idle engine has nothing that meets a change
 pub idle_apart : (idle : EngineState) (past : Past) (it : Change) → IsIdle idle past.state → IsApart session it idle
@@ -100,10 +111,6 @@ idle_apart idle past it is = record {
 -- nor is anything prepared in it by the session
 pub idle_unprepared : (idle : EngineState) (past : Past) → IsIdle idle past.state → is_under session idle ≡ false
 idle_unprepared idle past is = ap (is_under session) (idle_is idle past.state is)
-
--- JOURNAL takes the one table
-pub journal_allows : (kind : Kind) → IsJournal kind → allows kind.flags table_schema ≡ true
-journal_allows kind is = subst (λ (f : Flags). allows f table_schema ≡ true) (sym is.flags) refl
 
 schema_is_there : (o : Option Table) → is_some (schema_found o) ≡ is_some o
 schema_is_there None = refl

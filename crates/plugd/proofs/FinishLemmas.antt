@@ -37,11 +37,11 @@ use Rattle.plugd.specs.Way.{Past, IsAhead, IsOnWay, IsReadyToLog, IsSpelt, Finis
 use Rattle.plugd.proofs.AheadLemmas.{Called, GoesOn, core_of, secure_called, log_called}
 use Rattle.plugd.proofs.LogLemmas.{Logs, secure_logged, secure_acknowledged, durable_holds}
 use Rattle.plugd.proofs.LogOneLemmas.{carried_by}
-use Rattle.plugd.proofs.SpellLemmas.{spelt_size}
+use Rattle.plugd.proofs.SpellLemmas.{of_changes, spelt_size}
 use Rattle.plugd.proofs.WayLemmas.{durable_called}
 use Rattle.plugd.proofs.UndoLemmas.{only_device}
 use Rattle.plugd.proofs.CallsLemmas.{turns_work}
-use Rattle.plugd.proofs.DoneLemmas.{so_far, of_change, share, fit_logged, fit_committed}
+use Rattle.plugd.proofs.DoneLemmas.{so_far, share, fit_logged, fit_committed}
 use Rattle.plugd.proofs.EndLemmas.{IsDone, prepared_statement, prepared_is_state, ready_kept, committed_kept, ready_fit, logs_ready, halted_at_it, done_now}
 
 -- the server, with the log that it has now
@@ -72,32 +72,32 @@ pub logged_on : (core : Core) (bytes : List ℕ) (result : Result Unit Failed) (
 logged_on core bytes result log disk one = record { told = one.device.told; later = one.device.later; no_fewer = one.device.no_fewer }
 
 -- each image has the log before, or with the transaction
-pub one_moments : (past : Past) (idle : EngineState) (given : List ℕ) (it : Change) (xid : ℕ) (core : Core) (bytes : List ℕ) (result : Result Unit Failed) (log : Binlog) (disk : Disk)
-    → IsOnWay past idle given core → IsSpelt core it xid → LogsOne core bytes result log disk → IsTrue core.disk.told
-    → Keeps core.disk disk (Only 0 (now core.disk) (Holds (so_far past) (so_far past ++ of_change xid it ∷ [])))
-one_moments past idle given it xid core bytes result log disk way spelt one told =
-    one.moments (so_far past) (of_change xid it) told (carried_by core.server.log bytes core.server.spelling.items (of_change xid it ∷ []) one.bytes_are spelt)
+pub one_moments : (past : Past) (idle : EngineState) (given : List ℕ) (changes : List Change) (xid : ℕ) (core : Core) (bytes : List ℕ) (result : Result Unit Failed) (log : Binlog) (disk : Disk)
+    → IsOnWay past idle given core → IsSpelt core changes xid → LogsOne core bytes result log disk → IsTrue core.disk.told
+    → Keeps core.disk disk (Only 0 (now core.disk) (Holds (so_far past) (so_far past ++ of_changes xid changes ∷ [])))
+one_moments past idle given changes xid core bytes result log disk way spelt one told =
+    one.moments (so_far past) (of_changes xid changes) told (carried_by core.server.log bytes core.server.spelling.items (of_changes xid changes ∷ []) one.bytes_are spelt)
     (way.rest (subst IsTrue way.ahead.stopped.secure.told told)).durable
 
 -- it is durable
-pub one_durable : (past : Past) (idle : EngineState) (given : List ℕ) (it : Change) (xid : ℕ) (core : Core) (bytes : List ℕ) (log : Binlog) (disk : Disk)
-    → IsOnWay past idle given core → IsSpelt core it xid → LogsOne core bytes (Ok tt) log disk → IsTrue core.disk.told → IsDurable log (so_far past ++ of_change xid it ∷ []) disk
-one_durable past idle given it xid core bytes log disk way spelt one told =
-    one.ok (so_far past) (of_change xid it) told (carried_by core.server.log bytes core.server.spelling.items (of_change xid it ∷ []) one.bytes_are spelt)
+pub one_durable : (past : Past) (idle : EngineState) (given : List ℕ) (changes : List Change) (xid : ℕ) (core : Core) (bytes : List ℕ) (log : Binlog) (disk : Disk)
+    → IsOnWay past idle given core → IsSpelt core changes xid → LogsOne core bytes (Ok tt) log disk → IsTrue core.disk.told → IsDurable log (so_far past ++ of_changes xid changes ∷ []) disk
+one_durable past idle given changes xid core bytes log disk way spelt one told =
+    one.ok (so_far past) (of_changes xid changes) told (carried_by core.server.log bytes core.server.spelling.items (of_changes xid changes ∷ []) one.bytes_are spelt)
     (way.rest (subst IsTrue way.ahead.stopped.secure.told told)).durable
 
 -- how long the log is
-pub one_len : (it : Change) (xid : ℕ) (core : Core) (bytes : List ℕ) (log : Binlog) (disk : Disk) (len : ℕ) → IsSpelt core it xid → LogsOne core bytes (Ok tt) log disk → end_in core.server.log ≡ len
-    → end_in log ≡ len + logged_size (it ∷ [])
-one_len it xid core bytes log disk len spelt one is =
-    one.counts.1 ∙ ap (λ (l : List ℕ). core.server.log.len + length l) one.bytes_are ∙ spelt_size core.server.log xid (it ∷ []) core.server.spelling.items spelt ∙ ap (λ (n : ℕ). n + logged_size (it ∷ [])) is
+pub one_len : (changes : List Change) (xid : ℕ) (core : Core) (bytes : List ℕ) (log : Binlog) (disk : Disk) (len : ℕ) → IsSpelt core changes xid → LogsOne core bytes (Ok tt) log disk → end_in core.server.log ≡ len
+    → end_in log ≡ len + logged_size changes
+one_len changes xid core bytes log disk len spelt one is =
+    one.counts.1 ∙ ap (λ (l : List ℕ). core.server.log.len + length l) one.bytes_are ∙ spelt_size core.server.log xid changes core.server.spelling.items spelt ∙ ap (λ (n : ℕ). n + logged_size changes) is
 
 -- what the write and the sync did
-ready_logs : (past : Past) (idle : EngineState) (asks : Command) (it : Change) (xid : ℕ) (core : Core) (bytes : List ℕ) (result : Result Unit Failed) (log : Binlog) (disk : Disk)
-    → IsReadyToLog past idle asks it xid core → IsSpelt core it xid → LogsOne core bytes result log disk → Logs past.base (so_far past) (of_change xid it) core (after_prepare (share xid it) idle.gist) disk
-ready_logs past idle asks it xid core bytes result log disk ready spelt one =
-    logs_ready past idle asks it xid core disk ready.touches ready (logged_on core bytes result log disk one)
-    (λ told. one_moments past idle (past.state.given ++ xid ∷ []) it xid core bytes result log disk ready.way spelt one told)
+ready_logs : (past : Past) (idle : EngineState) (asks : Command) (changes : List Change) (xid : ℕ) (core : Core) (bytes : List ℕ) (result : Result Unit Failed) (log : Binlog) (disk : Disk)
+    → IsReadyToLog past idle asks changes xid core → IsSpelt core changes xid → LogsOne core bytes result log disk → Logs past.base (so_far past) (of_changes xid changes) core (after_prepare (share xid changes) idle.gist) disk
+ready_logs past idle asks changes xid core bytes result log disk ready spelt one =
+    logs_ready past idle asks changes xid core disk ready.touches ready (logged_on core bytes result log disk one)
+    (λ told. one_moments past idle (past.state.given ++ xid ∷ []) changes xid core bytes result log disk ready.way spelt one told)
 
 -- an image may have the transaction
 pub secure_one : (past : Past) (t : Transaction) (core : Core) (a : Gist) (log : Binlog) (disk : Disk) → IsAhead past core → Logs past.base (so_far past) t core a disk → Secure past.base (so_far past ++ t ∷ []) (logged_core log disk core)
@@ -111,20 +111,20 @@ rose_since past core disk ahead rose = let less = ahead.stopped.secure.no_fewer 
 failed_at_it : (asks : Command) (xid : ℕ) (core : Core) (bytes : List ℕ) (e : Failed) (log : Binlog) (disk : Disk) → LogsOne core bytes (Err e) log disk
     → Finishes asks xid core (record { server = with_halt Device (with_log log core.server); engine = core.engine; disk = disk }) (Halted Device)
 failed_at_it asks xid core bytes e log disk one = record {
-  ok = λ past idle it ready spelt room.
-      halted_at_it past asks it xid core (logged_core log disk core) Device (prepared_statement asks ready.touches) ready.way.ahead ready.granted ready.next room refl refl refl refl refl
-      (secure_one past (of_change xid it) core (after_prepare (share xid it) idle.gist) log disk ready.way.ahead (ready_logs past idle asks it xid core bytes (Err e) log disk ready spelt one))
+  ok = λ past idle changes ready spelt room.
+      halted_at_it past asks changes xid core (logged_core log disk core) Device (prepared_statement asks ready.touches) ready.way.ahead ready.granted ready.next room refl refl refl refl refl
+      (secure_one past (of_changes xid changes) core (after_prepare (share xid changes) idle.gist) log disk ready.way.ahead (ready_logs past idle asks changes xid core bytes (Err e) log disk ready spelt one))
       (rose_since past core disk ready.way.ahead (one.device.cause refl));
 }
 
 -- the engine can commit
-pub ready_under : (past : Past) (idle : EngineState) (asks : Command) (it : Change) (xid : ℕ) (core : Core) → IsReadyToLog past idle asks it xid core → IsUnder session xid core.engine.state
-ready_under past idle asks it xid core ready = ap (λ (s : EngineState). xid_by session s.pending) (prepared_is_state past idle asks it xid core ready)
+pub ready_under : (past : Past) (idle : EngineState) (asks : Command) (changes : List Change) (xid : ℕ) (core : Core) → IsReadyToLog past idle asks changes xid core → IsUnder session xid core.engine.state
+ready_under past idle asks changes xid core ready = ap (λ (s : EngineState). xid_by session s.pending) (prepared_is_state past idle asks changes xid core ready)
 
 -- and its last number is less than this one
-pub ready_later : (past : Past) (idle : EngineState) (asks : Command) (it : Change) (xid : ℕ) (core : Core) (number : ℕ) → IsReadyToLog past idle asks it xid core → number ≡ flushed_of core.server.log + 1 → core.engine.state.gist.last < number
-ready_later past idle asks it xid core number ready is =
-    let last : core.engine.state.gist.last ≡ idle.gist.last = ap (λ (s : EngineState). s.gist.last) (prepared_is_state past idle asks it xid core ready) in
+pub ready_later : (past : Past) (idle : EngineState) (asks : Command) (changes : List Change) (xid : ℕ) (core : Core) (number : ℕ) → IsReadyToLog past idle asks changes xid core → number ≡ flushed_of core.server.log + 1 → core.engine.state.gist.last < number
+ready_later past idle asks changes xid core number ready is =
+    let last : core.engine.state.gist.last ≡ idle.gist.last = ap (λ (s : EngineState). s.gist.last) (prepared_is_state past idle asks changes xid core ready) in
     let low = ready.way.was_idle.last in
     let count = ready.way.count in
     omega (arith, last, low, count, is)
@@ -136,35 +136,35 @@ logged_files past core t a disk logs told =
     same_files core.engine.kind.files (now disk) (now core.disk) (λ f here. (run.each disk.calls run.later (omega arith)).0 f (λ zero. logs.apart (subst (Contains core.engine.kind.files) zero here)))
 
 -- they are what it takes them for
-pub ready_holds : (past : Past) (idle : EngineState) (asks : Command) (it : Change) (xid : ℕ) (core : Core) (bytes : List ℕ) (result : Result Unit Failed) (log : Binlog) (disk : Disk)
-    → IsReadyToLog past idle asks it xid core → IsSpelt core it xid → LogsOne core bytes result log disk → IsTrue disk.told → core.engine.holds (files_in core.engine.kind.files disk)
-ready_holds past idle asks it xid core bytes result log disk ready spelt one told =
+pub ready_holds : (past : Past) (idle : EngineState) (asks : Command) (changes : List Change) (xid : ℕ) (core : Core) (bytes : List ℕ) (result : Result Unit Failed) (log : Binlog) (disk : Disk)
+    → IsReadyToLog past idle asks changes xid core → IsSpelt core changes xid → LogsOne core bytes result log disk → IsTrue disk.told → core.engine.holds (files_in core.engine.kind.files disk)
+ready_holds past idle asks changes xid core bytes result log disk ready spelt one told =
     let told₁ = subst IsTrue one.device.told told in
-    subst core.engine.holds (sym (logged_files past core (of_change xid it) (after_prepare (share xid it) idle.gist) disk (ready_logs past idle asks it xid core bytes result log disk ready spelt one) told₁))
+    subst core.engine.holds (sym (logged_files past core (of_changes xid changes) (after_prepare (share xid changes) idle.gist) disk (ready_logs past idle asks changes xid core bytes result log disk ready spelt one) told₁))
     (ready.way.rest (subst IsTrue ready.way.ahead.stopped.secure.told told₁)).at_work.holds
 
 -- What the commit did to the disk.
-commit_called : (past : Past) (idle : EngineState) (asks : Command) (it : Change) (xid number : ℕ) (core : Core) (bytes : List ℕ) (log : Binlog) (disk : Disk)
+commit_called : (past : Past) (idle : EngineState) (asks : Command) (changes : List Change) (xid number : ℕ) (core : Core) (bytes : List ℕ) (log : Binlog) (disk : Disk)
     {T : Type 0} (result : Result T EngineFault) (after : EngineState) (kind : Kind) (reading : Reading) (holds : List File → Type 0) (disk₂ : Disk)
-    → IsReadyToLog past idle asks it xid core → IsSpelt core it xid → LogsOne core bytes (Ok tt) log disk → number ≡ past.state.count + 1
+    → IsReadyToLog past idle asks changes xid core → IsSpelt core changes xid → LogsOne core bytes (Ok tt) log disk → number ≡ past.state.count + 1
     → IsSame core.engine.kind kind core.engine.reading reading
     → Turns core.engine.kind core.engine.reading result (committed_state session xid number core.engine.state) core.engine.state after holds disk disk₂
-    → Called past.base (so_far past ++ of_change xid it ∷ []) (logged_core log disk core) reading (after_prepare (share xid it) idle.gist) (after_commit (share xid it) number (after_prepare (share xid it) idle.gist)) disk₂
-commit_called past idle asks it xid number core bytes log disk result after kind reading holds disk₂ ready spelt one number_is same turns = record {
+    → Called past.base (so_far past ++ of_changes xid changes ∷ []) (logged_core log disk core) reading (after_prepare (share xid changes) idle.gist) (after_commit (share xid changes) number (after_prepare (share xid changes) idle.gist)) disk₂
+commit_called past idle asks changes xid number core bytes log disk result after kind reading holds disk₂ ready spelt one number_is same turns = record {
   on = record { told = turns.cause.told; later = turns.cause.later; no_fewer = turns.cause.no_fewer };
   same = same.reading;
   apart = ready.way.ahead.fixed.kind.apart;
   moments = λ told. subst (λ (l : List Gist). Keeps disk disk₂ (OnlyIn core.engine.kind.files (now disk) (EachReads core.engine.reading l)))
-      (both (ready_kept past idle asks it xid core ready) (committed_kept past idle asks it xid number core ready)) (turns.moments told);
-  holds = λ told. durable_holds log (so_far past ++ of_change xid it ∷ []) disk (one_durable past idle (past.state.given ++ xid ∷ []) it xid core bytes log disk ready.way spelt one (back told));
+      (both (ready_kept past idle asks changes xid core ready) (committed_kept past idle asks changes xid number core ready)) (turns.moments told);
+  holds = λ told. durable_holds log (so_far past ++ of_changes xid changes ∷ []) disk (one_durable past idle (past.state.given ++ xid ∷ []) changes xid core bytes log disk ready.way spelt one (back told));
   goes = λ told could.
       let first = subst IsTrue ready.way.ahead.stopped.secure.told (back told) in
-      let fit = ready_fit past idle asks it xid core ready.touches ready first could in
+      let fit = ready_fit past idle asks changes xid core ready.touches ready first could in
       let count = ready.way.ahead.stopped.count first in
       let as_many : number ≡ suc (length (so_far past)) = omega (arith, number_is, count, length-append past.base.found past.state.asked) in (
-        fit_logged past core idle.gist it xid fit,
-        subst (λ (n : ℕ). IsRecoverable (shelf_of core.engine) (so_far past ++ of_change xid it ∷ []) (alone (reader_of core.engine) (after_commit (share xid it) n (after_prepare (share xid it) idle.gist)))) (sym as_many)
-            (fit_committed past core idle.gist it xid fit).recoverable,
+        fit_logged past core idle.gist changes xid fit,
+        subst (λ (n : ℕ). IsRecoverable (shelf_of core.engine) (so_far past ++ of_changes xid changes ∷ []) (alone (reader_of core.engine) (after_commit (share xid changes) n (after_prepare (share xid changes) idle.gist)))) (sym as_many)
+            (fit_committed past core idle.gist changes xid fit).recoverable,
       );
 }
   where
@@ -191,18 +191,18 @@ finishes_failed asks xid core bytes e log disk server reply one server_is reply_
     as_halted asks xid core (with_log log core.server) server core.engine disk reply server_is reply_is (failed_at_it asks xid core bytes e log disk one)
 
 -- an image may have the transaction, behind the commit too
-secure_committed : (past : Past) (idle : EngineState) (asks : Command) (it : Change) (xid number : ℕ) (core : Core) (bytes : List ℕ) (log : Binlog) (disk : Disk)
+secure_committed : (past : Past) (idle : EngineState) (asks : Command) (changes : List Change) (xid number : ℕ) (core : Core) (bytes : List ℕ) (log : Binlog) (disk : Disk)
     {T : Type 0} (result : Result T EngineFault) (after : EngineState) (kind : Kind) (reading : Reading) (holds : List File → Type 0) (disk₂ : Disk)
-    → IsReadyToLog past idle asks it xid core → IsSpelt core it xid → LogsOne core bytes (Ok tt) log disk → number ≡ past.state.count + 1
+    → IsReadyToLog past idle asks changes xid core → IsSpelt core changes xid → LogsOne core bytes (Ok tt) log disk → number ≡ past.state.count + 1
     → IsSame core.engine.kind kind core.engine.reading reading
     → Turns core.engine.kind core.engine.reading result (committed_state session xid number core.engine.state) core.engine.state after holds disk disk₂
-    → Secure past.base (so_far past ++ of_change xid it ∷ []) (core_of (with_log log core.server) kind reading after holds disk₂)
-secure_committed past idle asks it xid number core bytes log disk result after kind reading holds disk₂ ready spelt one number_is same turns =
-    subst (λ (k : Kind). Secure past.base (so_far past ++ of_change xid it ∷ []) (core_of (with_log log core.server) k reading after holds disk₂)) (sym same.kind)
-    (secure_called past.base (so_far past ++ of_change xid it ∷ []) (so_far past ++ of_change xid it ∷ []) (logged_core log disk core)
-    (after_prepare (share xid it) idle.gist) (after_commit (share xid it) number (after_prepare (share xid it) idle.gist)) (with_log log core.server) reading after holds disk₂ refl
-    (commit_called past idle asks it xid number core bytes log disk result after kind reading holds disk₂ ready spelt one number_is same turns)
-    (secure_one past (of_change xid it) core (after_prepare (share xid it) idle.gist) log disk ready.way.ahead (ready_logs past idle asks it xid core bytes (Ok tt) log disk ready spelt one)))
+    → Secure past.base (so_far past ++ of_changes xid changes ∷ []) (core_of (with_log log core.server) kind reading after holds disk₂)
+secure_committed past idle asks changes xid number core bytes log disk result after kind reading holds disk₂ ready spelt one number_is same turns =
+    subst (λ (k : Kind). Secure past.base (so_far past ++ of_changes xid changes ∷ []) (core_of (with_log log core.server) k reading after holds disk₂)) (sym same.kind)
+    (secure_called past.base (so_far past ++ of_changes xid changes ∷ []) (so_far past ++ of_changes xid changes ∷ []) (logged_core log disk core)
+    (after_prepare (share xid changes) idle.gist) (after_commit (share xid changes) number (after_prepare (share xid changes) idle.gist)) (with_log log core.server) reading after holds disk₂ refl
+    (commit_called past idle asks changes xid number core bytes log disk result after kind reading holds disk₂ ready spelt one number_is same turns)
+    (secure_one past (of_changes xid changes) core (after_prepare (share xid changes) idle.gist) log disk ready.way.ahead (ready_logs past idle asks changes xid core bytes (Ok tt) log disk ready spelt one)))
 
 -- the commit failed
 pub finishes_halted : (asks : Command) (xid number : ℕ) (core : Core) (bytes : List ℕ) (log : Binlog) (disk : Disk)
@@ -215,13 +215,13 @@ pub finishes_halted : (asks : Command) (xid number : ℕ) (core : Core) (bytes :
     → Finishes asks xid core (core_of server kind reading after holds disk₂) reply
 finishes_halted asks xid number core bytes log disk {T = T} found after kind reading holds disk₂ server reply one number_is same turns may server_is reply_is =
     as_halted asks xid core (with_log log core.server) server (record { kind = kind; reading = reading; state = after; holds = holds }) disk₂ reply server_is reply_is (record {
-      ok = λ past idle it ready spelt room.
+      ok = λ past idle changes ready spelt room.
           let count_is = one_number past idle (past.state.given ++ xid ∷ []) core bytes log disk number ready.way one number_is in
-          let under = ap is_some (ready_under past idle asks it xid core ready) in
+          let under = ap is_some (ready_under past idle asks changes xid core ready) in
           let rose = turns.cause.cause (ap (λ (f : EngineFault). Err f) (only_device T found (may under))) in
           let more = one.device.no_fewer in
-          halted_at_it past asks it xid core (core_of (with_log log core.server) kind reading after holds disk₂) Device (prepared_statement asks ready.touches) ready.way.ahead ready.granted ready.next room refl refl refl refl same.kind
-          (secure_committed past idle asks it xid number core bytes log disk (Err found) after kind reading holds disk₂ ready spelt one count_is same turns)
+          halted_at_it past asks changes xid core (core_of (with_log log core.server) kind reading after holds disk₂) Device (prepared_statement asks ready.touches) ready.way.ahead ready.granted ready.next room refl refl refl refl same.kind
+          (secure_committed past idle asks changes xid number core bytes log disk (Err found) after kind reading holds disk₂ ready spelt one count_is same turns)
           (rose_since past core disk₂ ready.way.ahead (omega (arith, rose, more)));
     })
 
@@ -234,47 +234,47 @@ pub finishes_done : (asks : Command) (xid number call : ℕ) (core : Core) (byte
     → call ≡ disk₂.calls → Acknowledges asks number call (with_log log core.server) server → reply ≡ Done (count_of asks) number
     → Finishes asks xid core (core_of server kind reading after holds disk₂) reply
 finishes_done asks xid number call core bytes log disk {T = T} value after kind reading holds disk₂ server reply one number_is same turns call_is acks reply_is = record {
-  ok = λ past idle it ready spelt room.
+  ok = λ past idle changes ready spelt room.
       let count_is = one_number past idle (past.state.given ++ xid ∷ []) core bytes log disk number ready.way one number_is in
       subst (λ (r : Reply). PlaysTo past asks r (core_of server kind reading after holds disk₂)) (sym (reply_is ∙ ap (λ (n : ℕ). Done (count_of asks) n) count_is))
-      (done_now past idle asks it xid core (core_of server kind reading after holds disk₂) (done past idle it ready spelt room count_is));
+      (done_now past idle asks changes xid core (core_of server kind reading after holds disk₂) (done past idle changes ready spelt room count_is));
 }
   where
-    durable : (past : Past) (idle : EngineState) (it : Change) → IsReadyToLog past idle asks it xid core → IsSpelt core it xid → number ≡ past.state.count + 1 → IsTrue disk₂.told → IsDurable log (so_far past ++ of_change xid it ∷ []) disk₂
-    durable past idle it ready spelt count_is told =
+    durable : (past : Past) (idle : EngineState) (changes : List Change) → IsReadyToLog past idle asks changes xid core → IsSpelt core changes xid → number ≡ past.state.count + 1 → IsTrue disk₂.told → IsDurable log (so_far past ++ of_changes xid changes ∷ []) disk₂
+    durable past idle changes ready spelt count_is told =
         let told₁ = subst IsTrue turns.cause.told told in
-        durable_called log (so_far past ++ of_change xid it ∷ []) disk disk₂
-        (log_called past.base (so_far past ++ of_change xid it ∷ []) (logged_core log disk core) reading (after_prepare (share xid it) idle.gist) (after_commit (share xid it) number (after_prepare (share xid it) idle.gist)) disk₂
-        (commit_called past idle asks it xid number core bytes log disk (Ok value) after kind reading holds disk₂ ready spelt one count_is same turns) told₁)
-        (one_durable past idle (past.state.given ++ xid ∷ []) it xid core bytes log disk ready.way spelt one (subst IsTrue one.device.told told₁))
+        durable_called log (so_far past ++ of_changes xid changes ∷ []) disk disk₂
+        (log_called past.base (so_far past ++ of_changes xid changes ∷ []) (logged_core log disk core) reading (after_prepare (share xid changes) idle.gist) (after_commit (share xid changes) number (after_prepare (share xid changes) idle.gist)) disk₂
+        (commit_called past idle asks changes xid number core bytes log disk (Ok value) after kind reading holds disk₂ ready spelt one count_is same turns) told₁)
+        (one_durable past idle (past.state.given ++ xid ∷ []) changes xid core bytes log disk ready.way spelt one (subst IsTrue one.device.told told₁))
 
     ack_is : (past : Past) → number ≡ past.state.count + 1 → server.acks.items ≡ core.server.acks.items ++ (record { number = past.state.count + 1; call = disk₂.calls }) ∷ []
     ack_is past count_is =
         acks.acks ∙ ap (λ (n : ℕ). core.server.acks.items ++ (record { number = n; call = call }) ∷ []) count_is
         ∙ ap (λ (n : ℕ). core.server.acks.items ++ (record { number = past.state.count + 1; call = n }) ∷ []) call_is
 
-    done : (past : Past) (idle : EngineState) (it : Change) → IsReadyToLog past idle asks it xid core → IsSpelt core it xid → past.state.len + logged_size (it ∷ []) ≤ past.base.limit → number ≡ past.state.count + 1
-        → IsDone past idle asks it xid core (core_of server kind reading after holds disk₂)
-    done past idle it ready spelt room count_is = record {
+    done : (past : Past) (idle : EngineState) (changes : List Change) → IsReadyToLog past idle asks changes xid core → IsSpelt core changes xid → past.state.len + logged_size changes ≤ past.base.limit → number ≡ past.state.count + 1
+        → IsDone past idle asks changes xid core (core_of server kind reading after holds disk₂)
+    done past idle changes ready spelt room count_is = record {
       ready = ready;
       touches = ready.touches;
       room = room;
-      secure = secure_acknowledged past.base (so_far past ++ of_change xid it ∷ []) (core_of (with_log log core.server) kind reading after holds disk₂) server (record { number = past.state.count + 1; call = disk₂.calls })
+      secure = secure_acknowledged past.base (so_far past ++ of_changes xid changes ∷ []) (core_of (with_log log core.server) kind reading after holds disk₂) server (record { number = past.state.count + 1; call = disk₂.calls })
           (ack_is past count_is)
-          (λ told. let here = durable past idle it ready spelt count_is told in (here.is_log.bytes, durable_holds log (so_far past ++ of_change xid it ∷ []) disk₂ here))
+          (λ told. let here = durable past idle changes ready spelt count_is told in (here.is_log.bytes, durable_holds log (so_far past ++ of_changes xid changes ∷ []) disk₂ here))
           (λ told.
           let first = subst IsTrue ready.way.ahead.stopped.secure.told (subst IsTrue one.device.told (subst IsTrue turns.cause.told told)) in
           let count = ready.way.ahead.stopped.count first in
-          omega (arith, count, length-append past.base.found past.state.asked, length-append (so_far past) (of_change xid it ∷ [])))
+          omega (arith, count, length-append past.base.found past.state.asked, length-append (so_far past) (of_changes xid changes ∷ [])))
           refl
-          (secure_committed past idle asks it xid number core bytes log disk (Ok value) after kind reading holds disk₂ ready spelt one count_is same turns);
+          (secure_committed past idle asks changes xid number core bytes log disk (Ok value) after kind reading holds disk₂ ready spelt one count_is same turns);
       kind = same.kind;
       reading = same.reading;
       state = turns.ok ∙ ap (λ (n : ℕ). committed_state session xid n core.engine.state) count_is;
       work = λ told.
           subst (λ (k : Kind). IsAtWork (record { kind = k; reading = reading; state = after; holds = holds }) (now disk₂)) (sym same.kind)
           (turns_work core.engine.kind core.engine.reading reading (Ok value) (committed_state session xid number core.engine.state) core.engine.state after holds disk disk₂ same.reading turns tt (subst IsTrue turns.cause.told told));
-      durable = λ told. subst (λ (l : Binlog). IsDurable l (so_far past ++ of_change xid it ∷ []) disk₂) (sym acks.log) (durable past idle it ready spelt count_is told);
+      durable = λ told. subst (λ (l : Binlog). IsDurable l (so_far past ++ of_changes xid changes ∷ []) disk₂) (sym acks.log) (durable past idle changes ready spelt count_is told);
       xids = acks.xids;
       acks = ack_is past count_is;
       seen = acks.seen;
@@ -282,5 +282,5 @@ finishes_done asks xid number call core bytes log disk {T = T} value after kind 
       limit = acks.limit;
       halted = acks.halted ∙ ready.way.ahead.serves;
       count = ap flushed_of acks.log ∙ one.counts.0 ∙ ap (λ (n : ℕ). n + 1) ready.way.count;
-      len = ap end_in acks.log ∙ one_len it xid core bytes log disk past.state.len spelt one ready.way.len;
+      len = ap end_in acks.log ∙ one_len changes xid core bytes log disk past.state.len spelt one ready.way.len;
     }

@@ -14,6 +14,7 @@ pub mod ShelfLemmas
 pub mod LawLemmas
 pub mod AheadLemmas
 pub mod AskedLemmas
+pub mod ChangedLemmas
 pub mod LogLemmas
 pub mod WayLemmas
 pub mod CallsLemmas

@@ -31,7 +31,7 @@ use Rattle.plugd.specs.declared.seen.Seen.{Seen}
 use Rattle.plugd.specs.declared.server.Server.{Server}
 use Rattle.plugd.specs.Asked.{engine_name, after_command, count_of}
 use Rattle.plugd.specs.LogOne.{IsDurable}
-use Rattle.plugd.specs.Play.{State, logged, logged_size, Makes, IsNextGiven, logs, spent}
+use Rattle.plugd.specs.Play.{State, logged, logged_size, IsNextGiven, logs, spent}
 use Rattle.plugd.specs.Seen.{seen_after}
 use Rattle.plugd.specs.Serve.{Core, rules_of, reader_of, shelf_of, CouldRecover, Secure, IsIdle, IsAtRest, IsCatalogOf}
 use Rattle.plugd.specs.Spell.{with_halt, Acknowledges}
@@ -42,82 +42,79 @@ use Rattle.plugd.specs.Xids.{xids_of}
 use Rattle.plugd.proofs.AskedLemmas.{catalog_goes}
 use Rattle.plugd.proofs.LogLemmas.{Logs, secure_acknowledged, durable_holds}
 use Rattle.plugd.proofs.WayLemmas.{plays_push, numbers-append, refused_now}
-use Rattle.plugd.proofs.CallsLemmas.{new_xid, suits_granted}
-use Rattle.plugd.proofs.DoneLemmas.{so_far, of_change}
+use Rattle.plugd.proofs.CallsLemmas.{new_xid}
+use Rattle.plugd.proofs.DoneLemmas.{so_far}
+use Rattle.plugd.proofs.SpellLemmas.{of_changes}
 use Rattle.plugd.proofs.EndLemmas.{rest_logged, more_of, asked_by, halted_at_it}
 use Rattle.plugd.proofs.FinishLemmas.{LogsOne, logged_core, with_log, logged_on, logged_files, one_moments, one_durable, one_len, secure_one, rose_since}
 
 -- An INSTALL has its xid, and the engine is idle.
-pub record IsPlain (past : Past) (idle : EngineState) (it : Change) (xid : ℕ) (core : Core) : Type 0 where
+pub record IsPlain (past : Past) (idle : EngineState) (changes : List Change) (xid : ℕ) (core : Core) : Type 0 where
   pub way : IsOnWay past idle (past.state.given ++ xid ∷ []) core
-  pub granted : IsGranted past Install it
+  pub granted : IsGranted past Install changes
   pub next : IsNextGiven (rules_of past.base) past.state xid
   pub state : core.engine.state ≡ idle
 
--- its change
-install_is : (past : Past) (it : Change) → Makes Install past.state it → it ≡ change.Install engine_name
-install_is past it makes = cc
-
 -- the engine is at the log that has it
-plain_recovered : (past : Past) (idle : EngineState) (it : Change) (xid : ℕ) (core : Core) → IsPlain past idle it xid core → IsTrue past.base.start.told → CouldRecover past.base core.engine
-    → IsRecovered (shelf_of core.engine) (so_far past ++ of_change xid it ∷ []) (alone (reader_of core.engine) idle.gist)
-plain_recovered past idle it xid core is told could =
-    untouched_is (shelf_of core.engine) (so_far past) (reader_of core.engine) idle.gist (of_change xid it) (r.recovered could)
+plain_recovered : (past : Past) (idle : EngineState) (changes : List Change) (xid : ℕ) (core : Core) → IsPlain past idle changes xid core → IsTrue past.base.start.told → CouldRecover past.base core.engine
+    → IsRecovered (shelf_of core.engine) (so_far past ++ of_changes xid changes ∷ []) (alone (reader_of core.engine) idle.gist)
+plain_recovered past idle changes xid core is told could =
+    untouched_is (shelf_of core.engine) (so_far past) (reader_of core.engine) idle.gist (of_changes xid changes) (r.recovered could)
     (new_xid past.base.found past.state.asked past.state.given xid r.asked_given (is.next told))
-    (subst (λ (c : Change). part_at core.engine.kind.name (so_far past) (length (so_far past)) (of_change xid c) ≡ []) (sym it_is) refl)
-    (subst (λ (c : Change). EachApplies core.engine.kind.name (c ∷ []) (tables_after (so_far past))) (sym it_is) ((λ on. cc), tt))
-    (of_one (λ (x : ShelfEngine). Suits x.engine x.allows (it ∷ [])) (record { engine = core.engine.kind.name; allows = allows core.engine.kind.flags })
-    (suits_granted core.engine.kind past.state.catalog Install it is.way.ahead.fixed.kind is.granted.makes))
+    (subst (λ (l : List Change). part_at core.engine.kind.name (so_far past) (length (so_far past)) (of_changes xid l) ≡ []) (sym all) refl)
+    (subst (λ (l : List Change). EachApplies core.engine.kind.name l (tables_after (so_far past))) (sym all) ((λ on. cc), tt))
+    (of_one (λ (x : ShelfEngine). Suits x.engine x.allows changes) (record { engine = core.engine.kind.name; allows = allows core.engine.kind.flags })
+    (is.granted.can.suits core.engine.kind is.way.ahead.fixed.kind))
   where
     r : IsAtRest past.base core idle.gist past.state (past.state.given ++ xid ∷ [])
     r = is.way.rest told
 
-    it_is : it ≡ change.Install engine_name
-    it_is = install_is past it is.granted.makes
+    all : changes ≡ change.Install engine_name ∷ []
+    all = is.granted.makes.all
 
 -- What the write and the sync of it did.
-plain_logs : (past : Past) (idle : EngineState) (it : Change) (xid : ℕ) (core : Core) (bytes : List ℕ) (result : Result Unit Failed) (log : Binlog) (disk : Disk)
-    → IsPlain past idle it xid core → IsSpelt core it xid → LogsOne core bytes result log disk → Logs past.base (so_far past) (of_change xid it) core idle.gist disk
-plain_logs past idle it xid core bytes result log disk is spelt one = record {
+plain_logs : (past : Past) (idle : EngineState) (changes : List Change) (xid : ℕ) (core : Core) (bytes : List ℕ) (result : Result Unit Failed) (log : Binlog) (disk : Disk)
+    → IsPlain past idle changes xid core → IsSpelt core changes xid → LogsOne core bytes result log disk → Logs past.base (so_far past) (of_changes xid changes) core idle.gist disk
+plain_logs past idle changes xid core bytes result log disk is spelt one = record {
   on = logged_on core bytes result log disk one;
   apart = is.way.ahead.fixed.kind.apart;
   front = (past.state.asked, refl);
-  moments = λ told. one_moments past idle (past.state.given ++ xid ∷ []) it xid core bytes result log disk is.way spelt one told;
+  moments = λ told. one_moments past idle (past.state.given ++ xid ∷ []) changes xid core bytes result log disk is.way spelt one told;
   reads = λ told.
       subst (λ (l : List Gist). EachReads core.engine.reading l (map (now core.disk) core.engine.kind.files)) (ap (λ (s : EngineState). s.kept) is.state ∙ is.way.was_idle.kept)
       (is.way.rest (subst IsTrue is.way.ahead.stopped.secure.told told)).at_work.reads;
   goes = λ told could.
       let first = subst IsTrue is.way.ahead.stopped.secure.told told in
-      (((is.way.rest first).recovered could).recoverable, (plain_recovered past idle it xid core is first could).recoverable);
+      (((is.way.rest first).recovered could).recoverable, (plain_recovered past idle changes xid core is first could).recoverable);
 }
 
 -- the write or the sync failed
-pub plain_failed : (past : Past) (idle : EngineState) (it : Change) (xid : ℕ) (core : Core) (bytes : List ℕ) (e : Failed) (log : Binlog) (disk : Disk) (server : Server) (reply : Reply)
-    → IsPlain past idle it xid core → IsSpelt core it xid → past.state.len + logged_size (it ∷ []) ≤ past.base.limit → LogsOne core bytes (Err e) log disk
+pub plain_failed : (past : Past) (idle : EngineState) (changes : List Change) (xid : ℕ) (core : Core) (bytes : List ℕ) (e : Failed) (log : Binlog) (disk : Disk) (server : Server) (reply : Reply)
+    → IsPlain past idle changes xid core → IsSpelt core changes xid → past.state.len + logged_size changes ≤ past.base.limit → LogsOne core bytes (Err e) log disk
     → server ≡ with_halt Device (with_log log core.server) → reply ≡ Halted Device → PlaysTo past Install reply (record { server = server; engine = core.engine; disk = disk })
-plain_failed past idle it xid core bytes e log disk server reply is spelt room one server_is reply_is =
+plain_failed past idle changes xid core bytes e log disk server reply is spelt room one server_is reply_is =
     subst (λ (r : Reply). PlaysTo past Install r (record { server = server; engine = core.engine; disk = disk })) (sym reply_is)
     (subst (λ (s : Server). PlaysTo past Install (Halted Device) (record { server = s; engine = core.engine; disk = disk })) (sym server_is)
-    (halted_at_it past Install it xid core (logged_core log disk core) Device tt is.way.ahead is.granted is.next room refl refl refl refl refl
-    (secure_one past (of_change xid it) core idle.gist log disk is.way.ahead (plain_logs past idle it xid core bytes (Err e) log disk is spelt one))
+    (halted_at_it past Install changes xid core (logged_core log disk core) Device tt is.way.ahead is.granted is.next room refl refl refl refl refl
+    (secure_one past (of_changes xid changes) core idle.gist log disk is.way.ahead (plain_logs past idle changes xid core bytes (Err e) log disk is spelt one))
     (rose_since past core disk is.way.ahead (one.device.cause refl))))
 
 -- the log would pass its limit with it
-pub plain_spent : (past : Past) (idle : EngineState) (it : Change) (xid : ℕ) (core : Core) → IsPlain past idle it xid core → past.base.limit < past.state.len + logged_size (it ∷ []) → PlaysTo past Install (Refused LogSpent) core
-plain_spent past idle it xid core is more line asks_so =
+pub plain_spent : (past : Past) (idle : EngineState) (changes : List Change) (xid : ℕ) (core : Core) → IsPlain past idle changes xid core → past.base.limit < past.state.len + logged_size changes → PlaysTo past Install (Refused LogSpent) core
+plain_spent past idle changes xid core is more line asks_so =
     let i = is.way.was_idle in
     refused_now past idle (past.state.given ++ xid ∷ []) core (Refused LogSpent) line is.way refl
     (subst (λ (s : EngineState). IsIdle s past.state) (sym is.state) i)
     (λ x on. Contains-append_left past.state.given (xid ∷ []) x on)
     (λ told. subst (λ (g : Gist). IsAtRest past.base core g past.state (past.state.given ++ xid ∷ [])) (sym (ap (λ (s : EngineState). s.gist) is.state)) (is.way.rest told))
-    (spent Install (record { asks_so = asks_so; statement = tt; serves = is.way.ahead.is_serving }) is.granted.granted it is.granted.makes xid is.next more refl refl)
+    (spent Install (record { asks_so = asks_so; statement = tt; serves = is.way.ahead.is_serving }) is.granted.granted changes is.granted.makes xid is.next more refl refl)
 
 -- What stands behind the acknowledgement.
-record IsPlainDone (past : Past) (idle : EngineState) (it : Change) (xid : ℕ) (was core : Core) : Type 0 where
-  pub plain : IsPlain past idle it xid was
-  pub room : past.state.len + logged_size (it ∷ []) ≤ past.base.limit
-  pub secure : Secure past.base (so_far past ++ of_change xid it ∷ []) core
-  pub durable : IsTrue core.disk.told → IsDurable core.server.log (so_far past ++ of_change xid it ∷ []) core.disk
+record IsPlainDone (past : Past) (idle : EngineState) (changes : List Change) (xid : ℕ) (was core : Core) : Type 0 where
+  pub plain : IsPlain past idle changes xid was
+  pub room : past.state.len + logged_size changes ≤ past.base.limit
+  pub secure : Secure past.base (so_far past ++ of_changes xid changes ∷ []) core
+  pub durable : IsTrue core.disk.told → IsDurable core.server.log (so_far past ++ of_changes xid changes ∷ []) core.disk
   pub work : IsTrue core.disk.told → IsAtWork was.engine (now core.disk)
   pub acks : core.server.acks.items ≡ was.server.acks.items ++ (record { number = past.state.count + 1; call = core.disk.calls }) ∷ []
   pub seen : core.server.seen ≡ seen_after Install was.server.seen
@@ -126,22 +123,22 @@ record IsPlainDone (past : Past) (idle : EngineState) (it : Change) (xid : ℕ) 
   pub limit : core.server.limit ≡ was.server.limit
   pub halted : core.server.halted ≡ was.server.halted
   pub count : flushed_of core.server.log ≡ past.state.count + 1
-  pub len : end_in core.server.log ≡ past.state.len + logged_size (it ∷ [])
+  pub len : end_in core.server.log ≡ past.state.len + logged_size changes
 
 no_none : {X : Type 0} {x : X} → Some x ≡ None → ⊥
 no_none e = cc
 
 -- The line ends with its acknowledgement.
-plain_now : (past : Past) (idle : EngineState) (it : Change) (xid : ℕ) (was : Core) (server : Server) (disk : Disk) → IsPlainDone past idle it xid was (record { server = server; engine = was.engine; disk = disk })
+plain_now : (past : Past) (idle : EngineState) (changes : List Change) (xid : ℕ) (was : Core) (server : Server) (disk : Disk) → IsPlainDone past idle changes xid was (record { server = server; engine = was.engine; disk = disk })
     → PlaysTo past Install (Done (count_of Install) (past.state.count + 1)) (record { server = server; engine = was.engine; disk = disk })
-plain_now past idle it xid was server disk d line asks_so = record {
+plain_now past idle changes xid was server disk d line asks_so = record {
   state = after;
   fixed = record { kind = ahead.fixed.kind; limit = d.limit ∙ ahead.fixed.limit; small = ahead.fixed.small };
   line = omega (arith, ahead.line, length-append past.lines (line ∷ []));
   stopped = record {
     secure = subst (λ (all : List Transaction). Secure past.base all core) (joined ∙ ap (λ (l : List Transaction). past.base.found ++ l) (sym (append-nil (past.state.asked ++ t ∷ [])))) d.secure;
     plays = plays_push (rules_of past.base) past.base.first past.lines past.replies past.state line (reply ∷ []) after ahead.stopped.plays
-        (logs Install (record { asks_so = asks_so; statement = tt; serves = ahead.is_serving }) d.plain.granted.granted t (asked_by past Install it xid d.plain.granted d.plain.next) d.room refl refl);
+        (logs Install (record { asks_so = asks_so; statement = tt; serves = ahead.is_serving }) d.plain.granted.granted t (asked_by past Install changes xid d.plain.granted d.plain.next) d.room refl refl);
     numbers = ap (map (λ (a : Ack). a.number)) d.acks ∙ map-append (λ (a : Ack). a.number) was.server.acks.items (ack ∷ []) ∙ ap (λ (l : List ℕ). l ++ (past.state.count + 1) ∷ []) ahead.stopped.numbers
         ∙ sym (numbers-append past.replies (reply ∷ []));
     cause = λ c some. absurd (no_none (sym some));
@@ -173,7 +170,7 @@ plain_now past idle it xid was server disk d line asks_so = record {
     core = record { server = server; engine = was.engine; disk = disk }
 
     t : Transaction
-    t = of_change xid it
+    t = of_changes xid changes
 
     ahead : IsAhead past was
     ahead = d.plain.way.ahead
@@ -201,21 +198,21 @@ plain_now past idle it xid was server disk d line asks_so = record {
           knows = subst (λ (set : XidSet). Knows set (xids_of past.base.found ++ (past.state.given ++ xid ∷ []))) (sym d.xids) r.knows;
           asked_given = λ x on. ⊎_elim (λ old. Contains-append_left past.state.given (xid ∷ []) x (r.asked_given x old)) (λ new. Contains-append_right past.state.given (xid ∷ []) x new)
               (Contains-append_cases (xids_of past.state.asked) (xid ∷ []) x (subst (λ (l : List ℕ). Contains l x) (map-append (λ (u : Transaction). u.xid) past.state.asked (t ∷ [])) on));
-          catalog = subst (λ (l : List Transaction). IsCatalogOf l (after_command Install past.state.catalog)) joined (catalog_goes (so_far past) t past.state.catalog Install it refl r.catalog d.plain.granted.makes);
+          catalog = subst (λ (l : List Transaction). IsCatalogOf l (after_command Install past.state.catalog)) joined (catalog_goes (so_far past) t past.state.catalog Install d.plain.granted.makes.all r.catalog);
           at_work = d.work (told_now told);
           recovered = λ could.
               subst (λ (g : Gist). IsRecovered (shelf_of was.engine) (past.base.found ++ (past.state.asked ++ t ∷ [])) (alone (reader_of was.engine) g)) (sym (ap (λ (s : EngineState). s.gist) d.plain.state))
-              (subst (λ (l : List Transaction). IsRecovered (shelf_of was.engine) l (alone (reader_of was.engine) idle.gist)) joined (plain_recovered past idle it xid was d.plain told could));
+              (subst (λ (l : List Transaction). IsRecovered (shelf_of was.engine) l (alone (reader_of was.engine) idle.gist)) joined (plain_recovered past idle changes xid was d.plain told could));
         }
 
 -- it is acknowledged
-pub plain_done : (past : Past) (idle : EngineState) (it : Change) (xid number call : ℕ) (core : Core) (bytes : List ℕ) (log : Binlog) (disk : Disk) (server : Server) (reply : Reply)
-    → IsPlain past idle it xid core → IsSpelt core it xid → past.state.len + logged_size (it ∷ []) ≤ past.base.limit → LogsOne core bytes (Ok tt) log disk → number ≡ flushed_of log
+pub plain_done : (past : Past) (idle : EngineState) (changes : List Change) (xid number call : ℕ) (core : Core) (bytes : List ℕ) (log : Binlog) (disk : Disk) (server : Server) (reply : Reply)
+    → IsPlain past idle changes xid core → IsSpelt core changes xid → past.state.len + logged_size changes ≤ past.base.limit → LogsOne core bytes (Ok tt) log disk → number ≡ flushed_of log
     → call ≡ disk.calls → Acknowledges Install number call (with_log log core.server) server → reply ≡ Done (count_of Install) number
     → PlaysTo past Install reply (record { server = server; engine = core.engine; disk = disk })
-plain_done past idle it xid number call core bytes log disk server reply is spelt room one number_is call_is acks reply_is =
+plain_done past idle changes xid number call core bytes log disk server reply is spelt room one number_is call_is acks reply_is =
     subst (λ (r : Reply). PlaysTo past Install r (record { server = server; engine = core.engine; disk = disk })) (sym (reply_is ∙ ap (λ (n : ℕ). Done (count_of Install) n) count_is))
-    (plain_now past idle it xid core server disk (record {
+    (plain_now past idle changes xid core server disk (record {
       plain = is;
       room = room;
       secure = secure_acknowledged past.base all (logged_core log disk core) server (record { number = past.state.count + 1; call = disk.calls }) ack_is
@@ -223,13 +220,13 @@ plain_done past idle it xid number call core bytes log disk server reply is spel
           (λ told.
           let first = subst IsTrue is.way.ahead.stopped.secure.told (subst IsTrue one.device.told told) in
           let count = is.way.ahead.stopped.count first in
-          omega (arith, count, length-append past.base.found past.state.asked, length-append (so_far past) (of_change xid it ∷ [])))
-          refl (secure_one past (of_change xid it) core idle.gist log disk is.way.ahead was_logged);
+          omega (arith, count, length-append past.base.found past.state.asked, length-append (so_far past) (of_changes xid changes ∷ [])))
+          refl (secure_one past (of_changes xid changes) core idle.gist log disk is.way.ahead was_logged);
       durable = λ told. subst (λ (l : Binlog). IsDurable l all disk) (sym acks.log) (durable told);
       work = λ told.
           let told₁ = subst IsTrue one.device.told told in
           let w = (is.way.rest (subst IsTrue is.way.ahead.stopped.secure.told told₁)).at_work in
-          let same = sym (logged_files past core (of_change xid it) idle.gist disk was_logged told₁) in
+          let same = sym (logged_files past core (of_changes xid changes) idle.gist disk was_logged told₁) in
           record { holds = subst core.engine.holds same w.holds; reads = subst (EachReads core.engine.reading core.engine.state.kept) same w.reads };
       acks = ack_is;
       seen = acks.seen;
@@ -238,20 +235,20 @@ plain_done past idle it xid number call core bytes log disk server reply is spel
       limit = acks.limit;
       halted = acks.halted;
       count = ap flushed_of acks.log ∙ one.counts.0 ∙ ap (λ (n : ℕ). n + 1) is.way.count;
-      len = ap end_in acks.log ∙ one_len it xid core bytes log disk past.state.len spelt one is.way.len;
+      len = ap end_in acks.log ∙ one_len changes xid core bytes log disk past.state.len spelt one is.way.len;
     }))
   where
     all : List Transaction
-    all = so_far past ++ of_change xid it ∷ []
+    all = so_far past ++ of_changes xid changes ∷ []
 
-    was_logged : Logs past.base (so_far past) (of_change xid it) core idle.gist disk
-    was_logged = plain_logs past idle it xid core bytes (Ok tt) log disk is spelt one
+    was_logged : Logs past.base (so_far past) (of_changes xid changes) core idle.gist disk
+    was_logged = plain_logs past idle changes xid core bytes (Ok tt) log disk is spelt one
 
     count_is : number ≡ past.state.count + 1
     count_is = number_is ∙ one.counts.0 ∙ ap (λ (n : ℕ). n + 1) is.way.count
 
     durable : IsTrue disk.told → IsDurable log all disk
-    durable told = one_durable past idle (past.state.given ++ xid ∷ []) it xid core bytes log disk is.way spelt one (subst IsTrue one.device.told told)
+    durable told = one_durable past idle (past.state.given ++ xid ∷ []) changes xid core bytes log disk is.way spelt one (subst IsTrue one.device.told told)
 
     ack_is : server.acks.items ≡ core.server.acks.items ++ (record { number = past.state.count + 1; call = disk.calls }) ∷ []
     ack_is =

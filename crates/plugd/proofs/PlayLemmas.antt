@@ -65,15 +65,13 @@ plays_halted asks old new cause server reply statement executes server_is reply_
 
 -- it was executed, and can be taken to its reply
 pub some_executed : (asks : Command) (old new : Core) (changes : List Change) → Executes asks old new (Ok (executed.Changed changes)) → SomeOnWay old → SomeExecuted asks changes new
-some_executed asks old new changes executes some =
-    let by = executes.changed some.0 some.1 changes refl in
-    (some.0, old.engine.state, by.0, by.1, by.2)
+some_executed asks old new changes executes some = (some.0, old.engine.state, executes.changed some.0 some.1 changes refl)
 
 -- so it is
 pub plays_committed : (asks : Command) (old mid new : Core) (changes : List Change) (r : Result Reply AllocError) → Executes asks old mid (Ok (executed.Changed changes)) → Commits asks changes mid new r → PlaysOne asks old new r
 plays_committed asks old mid new changes r executes commits = record {
-  ok = λ past way reply answer. let by = executes.changed past way changes refl in commits.ok past old.engine.state by.0 by.1 by.2 reply answer;
-  err = λ past way. let by = executes.changed past way changes refl in commits.err past old.engine.state by.0 by.1 by.2;
+  ok = λ past way reply answer. commits.ok past old.engine.state (executes.changed past way changes refl) reply answer;
+  err = λ past way. commits.err past old.engine.state (executes.changed past way changes refl);
 }
 
 -- a statement that is no INSTALL is prepared in the engine

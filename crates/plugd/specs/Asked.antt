@@ -1,5 +1,5 @@
 -- What a command asks for, and why it is refused. (This project; the refusals are those of `sql_value`.)
-use Rattle.std.specs.Prelude.{ℕ, ℤ, List, [], ◌∷◌, Option, Some, None, Bool, true, false, cond, ◌||◌, nat_le, is_some, codes}
+use Rattle.std.specs.Prelude.{ℕ, ℤ, List, [], ◌∷◌, Option, Some, None, Bool, true, false, cond, ◌||◌, nat_le, is_some, option_to_list, codes}
 use Rattle.sql_value.specs.declared.value.Value.{Value}
 use Rattle.sql_value.specs.declared.value.Value.TheVariants.{Int, Text}
 use Rattle.sql_value.specs.declared.refusal.Refusal.{Refusal}
@@ -13,7 +13,7 @@ use Rattle.row_format.specs.Schemas.{same_schema}
 use Rattle.row_format.specs.Rows.{row_refusal, first_of_two}
 use Rattle.log_tables.specs.declared.table.Table.{Table}
 use Rattle.log_tables.specs.Tables.{table_named}
-use Rattle.log_tables.specs.Changes.{after_change}
+use Rattle.log_tables.specs.Changes.{after_changes}
 use Rattle.engine_api.specs.Live.{live_bytes, live_limit, schema_found, insert_into, is_taken_in}
 use Rattle.plugd.specs.declared.command.Command.{Command}
 use Rattle.plugd.specs.declared.command.Command.TheVariants.{Install, Create, Insert}
@@ -46,23 +46,20 @@ pub record Catalog : Type 0 where
   pub installed : Bool
   pub live : List Table
 
--- the change that a command makes, where it makes one
-abbrev pub change_by : Command → Catalog → Option Change
-change_by Install here = Some (change.Install engine_name)
-change_by Create here = Some (change.Create table_name engine_name table_schema)
-change_by (Insert key text) here = insert_into table_name (schema_found (table_named table_name here.live)) (row_of key text)
-change_by _ here = None
-
--- the tables after a change, where there is one
-abbrev pub after_some : Option Change → List Table → List Table
-after_some None live = live
-after_some (Some it) live = after_change it live
+-- the changes that a command makes, in order
+abbrev pub changes_by : Command → Catalog → List Change
+changes_by Install here = change.Install engine_name ∷ []
+changes_by Create here = change.Create table_name engine_name table_schema ∷ []
+changes_by (Insert key text) here =
+    option_to_list (insert_into table_name (schema_found (table_named table_name here.live)) (row_of key text))
+changes_by _ here = []
 
 -- what is there after a command
 abbrev pub after_command : Command → Catalog → Catalog
-after_command Install here = record { made = here.made; installed = true; live = here.live }
-after_command Create here = record { made = true; installed = here.installed; live = after_some (change_by Create here) here.live }
-after_command (Insert key text) here = record { made = here.made; installed = here.installed; live = after_some (change_by (Insert key text) here) here.live }
+after_command Install here = record { made = here.made; installed = true; live = after_changes (changes_by Install here) here.live }
+after_command Create here = record { made = true; installed = here.installed; live = after_changes (changes_by Create here) here.live }
+after_command (Insert key text) here =
+    record { made = here.made; installed = here.installed; live = after_changes (changes_by (Insert key text) here) here.live }
 after_command _ here = here
 
 -- a refusal, unless so

@@ -5,6 +5,7 @@ pub mod Reply
 pub mod Xids
 pub mod Lines
 pub mod Asked
+pub mod Changed
 pub mod Seen
 pub mod Play
 pub mod Spell

@@ -1,5 +1,5 @@
 -- What playing lines does: each line's reply, and the state that it leaves. (This project.)
-use Rattle.std.specs.Prelude.{◌≡◌, ◌<◌, ◌≤◌, ◌+◌, ℕ, List, [], ◌∷◌, ◌++◌, Option, Some, None, Bool, true, false, IsTrue, sum_by}
+use Rattle.std.specs.Prelude.{◌≡◌, ◌<◌, ◌≤◌, ◌+◌, ℕ, List, [], ◌∷◌, ◌++◌, length, Option, Some, None, Bool, true, false, IsTrue, sum_by}
 use Rattle.frame_codec.specs.Frame.{size_of}
 use Rattle.sql_value.specs.declared.refusal.Refusal.{Refusal}
 use Rattle.sql_value.specs.declared.refusal.Refusal.TheVariants.{TableFull, LogSpent}
@@ -12,7 +12,7 @@ use Rattle.plugd.specs.declared.reply.Reply.{Reply}
 use Rattle.plugd.specs.declared.reply.HaltCause.{HaltCause}
 use Rattle.plugd.specs.declared.reply.Reply.TheVariants.{Done, Refused, Halted, BadLine}
 use Rattle.plugd.specs.Command.{IsCommand}
-use Rattle.plugd.specs.Asked.{Catalog, change_by, after_command, refusal_of, count_of}
+use Rattle.plugd.specs.Asked.{Catalog, changes_by, after_command, refusal_of, count_of}
 use Rattle.plugd.specs.Xids.{IsNextXid}
 
 -- what a run keeps to: how long the log may get, whether contents are told, and the xids that the opening found
@@ -61,15 +61,14 @@ halted_at cause met s = record { line = s.line + 1; count = s.count; len = s.len
 abbrev pub IsNextGiven : Rules → State → ℕ → Type 0
 IsNextGiven rules s xid = IsTrue rules.told → IsNextXid (rules.found ++ s.given) xid
 
--- the command makes this change
-abbrev pub Makes : Command → State → Change → Type 0
-Makes asks s it = change_by asks s.catalog ≡ Some it
+-- the command makes these changes, and at least one
+pub record Makes (asks : Command) (s : State) (changes : List Change) : Type 0 where
+  pub all : changes ≡ changes_by asks s.catalog
+  pub some : 0 < length changes
 
--- a transaction by the rules: of the one change that the command makes, under the next xid
+-- a transaction by the rules: of the changes that the command makes, under the next xid
 pub record IsAskedBy (rules : Rules) (s : State) (asks : Command) (t : Transaction) : Type 0 where
-  pub change : Change
-  pub made : Makes asks s change
-  pub changes : t.changes ≡ change ∷ []
+  pub made : Makes asks s t.changes
   pub xid : IsNextGiven rules s t.xid
 
 -- the command is a statement
@@ -103,8 +102,8 @@ pub data Turn (rules : Rules) (line : List ℕ) (before : State) (replies : List
   full : (asks : Command) → IsPlayed line asks before → refusal_of asks before.catalog ≡ None → IsTrue (is_prepared_for asks) → (xid : ℕ) → IsNextGiven rules before xid
       → replies ≡ Refused TableFull ∷ [] → after ≡ with_given (before.given ++ xid ∷ []) before → Turn rules line before replies after
   -- the log would pass its limit: it is rolled back where it was prepared
-  spent : (asks : Command) → IsPlayed line asks before → refusal_of asks before.catalog ≡ None → (it : Change) → Makes asks before it → (xid : ℕ) → IsNextGiven rules before xid
-      → rules.limit < before.len + logged_size (it ∷ []) → replies ≡ Refused LogSpent ∷ [] → after ≡ with_given (before.given ++ xid ∷ []) before → Turn rules line before replies after
+  spent : (asks : Command) → IsPlayed line asks before → refusal_of asks before.catalog ≡ None → (changes : List Change) → Makes asks before changes → (xid : ℕ) → IsNextGiven rules before xid
+      → rules.limit < before.len + logged_size changes → replies ≡ Refused LogSpent ∷ [] → after ≡ with_given (before.given ++ xid ∷ []) before → Turn rules line before replies after
   -- it was logged, is durable and committed
   logs : (asks : Command) → IsPlayed line asks before → refusal_of asks before.catalog ≡ None → (t : Transaction) → IsAskedBy rules before asks t
       → before.len + logged_size t.changes ≤ rules.limit → replies ≡ Done (count_of asks) (before.count + 1) ∷ [] → after ≡ logged asks t before → Turn rules line before replies after

@@ -1,12 +1,18 @@
 -- A statement on its way: from its line to its reply. (This project.)
-use Rattle.std.specs.Prelude.{◌≡◌, ◌⊎◌, ◌<◌, ◌≤◌, ◌+◌, ℕ, List, [], ◌∷◌, ◌++◌, length, vec_len, vec_capacity, None, Some, Bool, true, false, Result, Ok, OnErr, IsTrue}
+use Rattle.std.specs.Prelude.{◌≡◌, ◌⊎◌, ◌<◌, ◌≤◌, ◌+◌, ◌^◌, ℕ, List, [], ◌∷◌, ◌++◌, length, vec_len, vec_capacity, None, Some, Bool, true, false, Result, Ok, OnErr, IsTrue}
 use Rattle.std.specs.declared.alloc.AllocError.{AllocError}
 use Rattle.sql_value.specs.declared.refusal.Refusal.{Refusal}
 use Rattle.sql_value.specs.declared.refusal.Refusal.TheVariants.{TableFull, LogSpent}
 use Rattle.row_format.specs.declared.change.Change.{Change}
-use Rattle.row_format.specs.Changes.{IsFitChange}
+use Rattle.row_format.specs.declared.change.Transaction.{Transaction}
+use Rattle.row_format.specs.Changes.{AreFitChanges}
+use Rattle.log_tables.specs.declared.table.Table.{Table}
+use Rattle.log_tables.specs.Tables.{part_of}
+use Rattle.log_tables.specs.Changes.{tables_after, changes_on, EachApplies}
 use Rattle.binlog_file.specs.Binlog.{flushed_of, end_in, Carries}
-use Rattle.engine_api.specs.States.{EngineState, with_change, prepared_state}
+use Rattle.engine_api.specs.Live.{allows}
+use Rattle.engine_api.specs.States.{Kind, EngineState, prepared_state}
+use Rattle.recovery_rules.specs.Recovery.{Suits}
 use Rattle.plugd.specs.declared.command.Command.{Command}
 use Rattle.plugd.specs.declared.reply.Reply.{Reply}
 use Rattle.plugd.specs.declared.reply.HaltCause.{HaltCause}
@@ -16,9 +22,10 @@ use Rattle.plugd.specs.declared.statement.Prepared.{Prepared}
 use Rattle.plugd.specs.declared.statement.Prepared.TheVariants as prepared
 use Rattle.plugd.specs.Serve.{session}
 use Rattle.plugd.specs.Command.{IsCommand}
-use Rattle.plugd.specs.Asked.{refusal_of}
+use Rattle.plugd.specs.Asked.{Catalog, engine_name, refusal_of}
+use Rattle.plugd.specs.Changed.{with_changes}
 use Rattle.plugd.specs.Play.{State, Makes, is_prepared_for, logged_size, IsNextGiven}
-use Rattle.plugd.specs.Serve.{Base, Core, Stopped, IsIdle, IsAtRest, IsFixed, IsCause, rules_of, Serving, Halts}
+use Rattle.plugd.specs.Serve.{Base, Core, Stopped, IsIdle, IsAtRest, IsFixed, IsJournal, IsCatalogOf, IsCause, rules_of, Serving, Halts}
 
 -- a run that has played some lines, and stands in a state
 pub record Past : Type 0 where
@@ -47,26 +54,41 @@ pub record IsOnWay (past : Past) (idle : EngineState) (given : List ℕ) (core :
   pub was_idle : IsIdle idle past.state
   pub rest : IsTrue past.base.start.told → IsAtRest past.base core idle.gist past.state given
 
--- the state of an engine that was idle, after this change: an INSTALL is none of the engine's
-abbrev pub changed_if : Bool → Change → EngineState → EngineState
-changed_if true it idle = with_change session it idle
-changed_if false it idle = idle
+-- the state of an engine that was idle, after these changes: an INSTALL is none of the engine's
+abbrev pub changed_if : Bool → List Change → EngineState → EngineState
+changed_if true changes idle = with_changes session changes idle
+changed_if false changes idle = idle
 
--- the state behind the execution of a command that makes this change
-abbrev pub executed_state : Command → Change → EngineState → EngineState
-executed_state command it idle = changed_if (is_prepared_for command) it idle
+-- the state behind the execution of a command that makes these changes
+abbrev pub executed_state : Command → List Change → EngineState → EngineState
+executed_state command changes idle = changed_if (is_prepared_for command) changes idle
 
--- the command makes this change, and is not refused
-pub record IsGranted (past : Past) (command : Command) (it : Change) : Type 0 where
-  pub makes : Makes command past.state it
+-- all these changes are on tables of the engine, and each applies to the tables before it
+pub record AreOwn (changes : List Change) (tables : List Table) : Type 0 where
+  pub own : changes_on engine_name changes tables ≡ changes
+  pub apply : EachApplies engine_name changes tables
+
+-- A log with this catalog can have these changes next: the engine's flags allow each table that they make; and where the engine prepares
+-- them, and its live tables are its part of the log's, they are on its tables and apply.
+pub record CanLog (here : Catalog) (command : Command) (changes : List Change) : Type 0 where
+  pub suits : (kind : Kind) → IsJournal kind → Suits kind.name (allows kind.flags) changes
+  pub own : IsTrue (is_prepared_for command) → (log : List Transaction) → IsCatalogOf log here → here.live ≡ part_of engine_name (tables_after log)
+      → AreOwn changes (tables_after log)
+
+-- the command makes these changes, and is not refused; they can be spelt, and logged
+pub record IsGranted (past : Past) (command : Command) (changes : List Change) : Type 0 where
+  pub makes : Makes command past.state changes
   pub granted : refusal_of command past.state.catalog ≡ None
-  pub fit : IsFitChange it
+  pub fit : AreFitChanges changes
+  pub few : length changes < 2 ^ 31
+  pub can : CanLog past.state.catalog command changes
 
--- the statement was executed: its change is in the engine, and nothing else
-pub record IsExecuted (past : Past) (idle : EngineState) (command : Command) (it : Change) (given : List ℕ) (core : Core) : Type 0 where
+-- the statement was executed: its changes are in the engine, and nothing else
+pub record IsExecuted (past : Past) (idle : EngineState) (command : Command) (changes : List Change) (given : List ℕ) (core : Core)
+    : Type 0 where
   pub way : IsOnWay past idle given core
-  pub granted : IsGranted past command it
-  pub state : core.engine.state ≡ executed_state command it idle
+  pub granted : IsGranted past command changes
+  pub state : core.engine.state ≡ executed_state command changes idle
 
 -- a call of the engine halts the run
 pub record HaltsBy (past : Past) (core : Core) (cause : HaltCause) : Type 0 where
@@ -83,8 +105,8 @@ EndsAt past core = Halts past.base past.lines past.replies core
 
 -- a statement is executed
 pub record Executes (command : Command) (old new : Core) (result : Result Executed AllocError) : Type 0 where
-  pub changed : (past : Past) → IsOnWay past old.engine.state past.state.given old → (changes : List Change) → result ≡ Ok (executed.Changed changes)
-      → (it : Change) × (changes ≡ it ∷ []) × IsExecuted past old.engine.state command it past.state.given new
+  pub changed : (past : Past) → IsOnWay past old.engine.state past.state.given old → (changes : List Change)
+      → result ≡ Ok (executed.Changed changes) → IsExecuted past old.engine.state command changes past.state.given new
   pub refused : (past : Past) → IsOnWay past old.engine.state past.state.given old → (refusal : Refusal) → result ≡ Ok (executed.Refused refusal)
       → (refusal_of command past.state.catalog ≡ Some refusal) × IsOnWay past old.engine.state past.state.given new × (new.engine.state ≡ old.engine.state)
   pub halted : (past : Past) → IsOnWay past old.engine.state past.state.given old → (cause : HaltCause) → result ≡ Ok (executed.Halted cause) → HaltsBy past new cause
@@ -92,51 +114,62 @@ pub record Executes (command : Command) (old new : Core) (result : Result Execut
 
 -- a statement that was executed is taken to its reply
 pub record Commits (command : Command) (changes : List Change) (old new : Core) (result : Result Reply AllocError) : Type 0 where
-  pub ok : (past : Past) (idle : EngineState) (it : Change) → changes ≡ it ∷ [] → IsExecuted past idle command it past.state.given old → (reply : Reply) → result ≡ Ok reply → PlaysTo past command reply new
-  pub err : (past : Past) (idle : EngineState) (it : Change) → changes ≡ it ∷ [] → IsExecuted past idle command it past.state.given old → OnErr result (EndsAt past new)
+  pub ok : (past : Past) (idle : EngineState) → IsExecuted past idle command changes past.state.given old → (reply : Reply)
+      → result ≡ Ok reply → PlaysTo past command reply new
+  pub err : (past : Past) (idle : EngineState) → IsExecuted past idle command changes past.state.given old
+      → OnErr result (EndsAt past new)
 
 -- the engine has prepared what was executed, under this xid
-pub record IsReadyToLog (past : Past) (idle : EngineState) (command : Command) (it : Change) (xid : ℕ) (core : Core) : Type 0 where
+pub record IsReadyToLog (past : Past) (idle : EngineState) (command : Command) (changes : List Change) (xid : ℕ) (core : Core)
+    : Type 0 where
   pub touches : IsTrue (is_prepared_for command)
   pub way : IsOnWay past idle (past.state.given ++ xid ∷ []) core
-  pub granted : IsGranted past command it
+  pub granted : IsGranted past command changes
   pub next : IsNextGiven (rules_of past.base) past.state xid
-  pub state : core.engine.state ≡ prepared_state session xid (with_change session it idle)
+  pub state : core.engine.state ≡ prepared_state session xid (with_changes session changes idle)
 
 -- what was executed is to be prepared under the next xid
-pub record IsToPrepare (past : Past) (idle : EngineState) (command : Command) (it : Change) (xid : ℕ) (core : Core) : Type 0 where
+pub record IsToPrepare (past : Past) (idle : EngineState) (command : Command) (changes : List Change) (xid : ℕ) (core : Core)
+    : Type 0 where
   pub touches : IsTrue (is_prepared_for command)
-  pub executed : IsExecuted past idle command it (past.state.given ++ xid ∷ []) core
+  pub executed : IsExecuted past idle command changes (past.state.given ++ xid ∷ []) core
   pub next : IsNextGiven (rules_of past.base) past.state xid
 
 -- it is prepared
 pub record Prepares (xid : ℕ) (old new : Core) (result : Result Prepared AllocError) : Type 0 where
-  pub done : (past : Past) (idle : EngineState) (command : Command) (it : Change) → IsToPrepare past idle command it xid old → result ≡ Ok prepared.Done → IsReadyToLog past idle command it xid new
-  pub full : (past : Past) (idle : EngineState) (command : Command) (it : Change) → IsToPrepare past idle command it xid old → result ≡ Ok prepared.Full → IsToPrepare past idle command it xid new
-  pub halted : (past : Past) (idle : EngineState) (command : Command) (it : Change) → IsToPrepare past idle command it xid old → (cause : HaltCause) → result ≡ Ok (prepared.Halted cause) → HaltsBy past new cause
-  pub err : (past : Past) (idle : EngineState) (command : Command) (it : Change) → IsToPrepare past idle command it xid old → OnErr result (EndsAt past new)
+  pub done : (past : Past) (idle : EngineState) (command : Command) (changes : List Change) → IsToPrepare past idle command changes xid old
+      → result ≡ Ok prepared.Done → IsReadyToLog past idle command changes xid new
+  pub full : (past : Past) (idle : EngineState) (command : Command) (changes : List Change) → IsToPrepare past idle command changes xid old
+      → result ≡ Ok prepared.Full → IsToPrepare past idle command changes xid new
+  pub halted : (past : Past) (idle : EngineState) (command : Command) (changes : List Change) → IsToPrepare past idle command changes xid old
+      → (cause : HaltCause) → result ≡ Ok (prepared.Halted cause) → HaltsBy past new cause
+  pub err : (past : Past) (idle : EngineState) (command : Command) (changes : List Change) → IsToPrepare past idle command changes xid old
+      → OnErr result (EndsAt past new)
 
 -- why a statement is taken back behind its prepare: the journal is full, or the log would pass its limit
-abbrev pub IsReason : Past → Change → Refusal → Type 0
-IsReason past it TableFull = Unit {0}
-IsReason past it LogSpent = past.base.limit < past.state.len + logged_size (it ∷ [])
-IsReason past it _ = ⊥
+abbrev pub IsReason : Past → List Change → Refusal → Type 0
+IsReason past changes TableFull = Unit {0}
+IsReason past changes LogSpent = past.base.limit < past.state.len + logged_size changes
+IsReason past changes _ = ⊥
 
 -- the statement may be prepared or not, under this xid
-abbrev pub IsToUndo : Past → EngineState → Command → Change → ℕ → Core → Type 0
-IsToUndo past idle command it xid core = IsToPrepare past idle command it xid core ⊎ IsReadyToLog past idle command it xid core
+abbrev pub IsToUndo : Past → EngineState → Command → List Change → ℕ → Core → Type 0
+IsToUndo past idle command changes xid core =
+    IsToPrepare past idle command changes xid core ⊎ IsReadyToLog past idle command changes xid core
 
 -- it is rolled back, and refused; or that halts the run
 pub record Undoes (refusal : Refusal) (old new : Core) (reply : Reply) : Type 0 where
-  pub ok : (past : Past) (idle : EngineState) (command : Command) (it : Change) (xid : ℕ) → IsTrue (is_prepared_for command) → IsToUndo past idle command it xid old → IsReason past it refusal → PlaysTo past command reply new
+  pub ok : (past : Past) (idle : EngineState) (command : Command) (changes : List Change) (xid : ℕ) → IsTrue (is_prepared_for command)
+      → IsToUndo past idle command changes xid old → IsReason past changes refusal → PlaysTo past command reply new
 
--- what is spelt is the transaction of this change under this xid
-abbrev pub IsSpelt : Core → Change → ℕ → Type 0
-IsSpelt core it xid = Carries core.server.log core.server.spelling.items ((record { xid = xid; changes = it ∷ [] }) ∷ [])
+-- what is spelt is the transaction of these changes under this xid
+abbrev pub IsSpelt : Core → List Change → ℕ → Type 0
+IsSpelt core changes xid = Carries core.server.log core.server.spelling.items ((record { xid = xid; changes = changes }) ∷ [])
 
 -- a statement that is prepared is logged, committed and acknowledged; or a fault halts the run
 pub record Finishes (command : Command) (xid : ℕ) (old new : Core) (reply : Reply) : Type 0 where
-  pub ok : (past : Past) (idle : EngineState) (it : Change) → IsReadyToLog past idle command it xid old → IsSpelt old it xid → past.state.len + logged_size (it ∷ []) ≤ past.base.limit → PlaysTo past command reply new
+  pub ok : (past : Past) (idle : EngineState) (changes : List Change) → IsReadyToLog past idle command changes xid old → IsSpelt old changes xid
+      → past.state.len + logged_size changes ≤ past.base.limit → PlaysTo past command reply new
 
 -- a statement is played: to its reply, or to the end of memory
 pub record PlaysOne (command : Command) (old new : Core) (result : Result Reply AllocError) : Type 0 where
@@ -149,17 +182,20 @@ SomeOnWay core = (past : Past) × IsOnWay past core.engine.state past.state.give
 
 -- some statement was executed, and makes these changes
 abbrev pub SomeExecuted : Command → List Change → Core → Type 0
-SomeExecuted command changes core = (past : Past) × (idle : EngineState) × (it : Change) × (changes ≡ it ∷ []) × IsExecuted past idle command it past.state.given core
+SomeExecuted command changes core = (past : Past) × (idle : EngineState) × IsExecuted past idle command changes past.state.given core
 
 -- some statement is to be prepared under this xid
 abbrev pub SomeToPrepare : ℕ → Core → Type 0
-SomeToPrepare xid core = (past : Past) × (idle : EngineState) × (command : Command) × (it : Change) × IsToPrepare past idle command it xid core
+SomeToPrepare xid core =
+    (past : Past) × (idle : EngineState) × (command : Command) × (changes : List Change) × IsToPrepare past idle command changes xid core
 
 -- some statement is to be taken back
 abbrev pub SomeToUndo : Core → Type 0
-SomeToUndo core = (past : Past) × (idle : EngineState) × (command : Command) × (it : Change) × (xid : ℕ) × IsToUndo past idle command it xid core
+SomeToUndo core =
+    (past : Past) × (idle : EngineState) × (command : Command) × (changes : List Change) × (xid : ℕ) × IsToUndo past idle command changes xid core
 
 -- this statement is prepared under this xid, is spelt, and fits into the log, and there is room for its acknowledgement
 abbrev pub SomeReady : Command → ℕ → Core → Type 0
-SomeReady command xid core = (past : Past) × (idle : EngineState) × (it : Change) × IsReadyToLog past idle command it xid core × IsSpelt core it xid × (past.state.len + logged_size (it ∷ []) ≤ past.base.limit)
-    × (vec_len core.server.acks < vec_capacity core.server.acks)
+SomeReady command xid core =
+    (past : Past) × (idle : EngineState) × (changes : List Change) × IsReadyToLog past idle command changes xid core × IsSpelt core changes xid
+    × (past.state.len + logged_size changes ≤ past.base.limit) × (vec_len core.server.acks < vec_capacity core.server.acks)

@@ -19,8 +19,8 @@ pub returns-then-not-branch-clause-commits : goal.returns-then-not-branch-clause
 returns-then-not-branch-clause-commits g c =
     let spells = c.in_ok-spell.ensures.spells in
     let plain = plain_given c.args.changes _ c.give.new.self c.in_ok-xid.xid c.spell.new.self c.in_ok-xid.ensures.given spells.same in
-    commits_ok Install c.args.changes _ _ _ (λ past idle it one is.
-    plain_spent past idle it c.in_ok-xid.xid _ (plain past idle it one is) (spent_now Install c.args.changes _ (spells.spent (ap Ok c.if-not-branch.true)) past idle it one is))
+    commits_ok Install c.args.changes _ _ _ (λ past idle is.
+    plain_spent past idle c.args.changes c.in_ok-xid.xid _ (plain past idle is) (spent_now Install c.args.changes _ (spells.spent (ap Ok c.if-not-branch.true)) past idle is))
 
 pub returns-in_default-clause-commits : goal.returns-in_default-clause-commits
 returns-in_default-clause-commits g c =
@@ -29,10 +29,10 @@ returns-in_default-clause-commits g c =
     let fits = ap Ok c.if-not-branch.false in
     let d2 = goal.Storage-dyn g (object c.log.new.storage) in
     let one : LogsOne _ c.deref.result.now (Err c.in_default.field-0) c.log.new.log (d2.disk c.log.new.storage.value) = record { bytes_are = c.deref.ensures.value; ok = c.in_default.ensures.ok; counts = c.in_default.ensures.counts; moments = c.in_default.ensures.any_moment; device = c.in_default.ensures.device } in
-    commits_ok Install c.args.changes _ _ c.halt.result (λ past idle it one_is is.
-    plain_failed past idle it c.in_ok-xid.xid _ c.deref.result.now c.in_default.field-0 c.log.new.log (d2.disk c.log.new.storage.value) c.halt.new.self c.halt.result (plain past idle it one_is is)
-    (spelt_now c.args.changes it c.in_ok-xid.xid c.spell.new.self c.spell.new.self one_is refl (spells.spelt fits))
-    (room_now Install c.args.changes _ (spells.fits fits) past idle it one_is is) one c.halt.ensures.server c.halt.ensures.reply)
+    commits_ok Install c.args.changes _ _ c.halt.result (λ past idle is.
+    plain_failed past idle c.args.changes c.in_ok-xid.xid _ c.deref.result.now c.in_default.field-0 c.log.new.log (d2.disk c.log.new.storage.value) c.halt.new.self c.halt.result (plain past idle is)
+    (spelt_now c.args.changes c.in_ok-xid.xid c.spell.new.self c.spell.new.self refl (spells.spelt fits))
+    (room_now Install c.args.changes _ (spells.fits fits) past idle is) one c.halt.ensures.server c.halt.ensures.reply)
 
 pub returns-clause-commits : goal.returns-clause-commits
 returns-clause-commits g c =
@@ -41,7 +41,7 @@ returns-clause-commits g c =
     let fits = ap Ok c.if-not-branch.false in
     let d2 = goal.Storage-dyn g (object c.log.new.storage) in
     let one : LogsOne _ c.deref.result.now (Ok c.in-Ok.field-0) c.log.new.log (d2.disk c.log.new.storage.value) = record { bytes_are = c.deref.ensures.value; ok = c.in-Ok.ensures.ok; counts = c.in-Ok.ensures.counts; moments = c.in-Ok.ensures.any_moment; device = c.in-Ok.ensures.device } in
-    commits_ok Install c.args.changes _ _ c.acknowledge.result (λ past idle it one_is is.
-    plain_done past idle it c.in_ok-xid.xid c.flushed-number.result c.calls_of.result _ c.deref.result.now c.log.new.log (d2.disk c.log.new.storage.value) c.acknowledge.new.self c.acknowledge.result (plain past idle it one_is is)
-    (spelt_now c.args.changes it c.in_ok-xid.xid c.spell.new.self c.spell.new.self one_is refl (spells.spelt fits))
-    (room_now Install c.args.changes _ (spells.fits fits) past idle it one_is is) one c.flushed-number.ensures c.calls_of.ensures c.acknowledge.ensures.acknowledges c.acknowledge.ensures.reply)
+    commits_ok Install c.args.changes _ _ c.acknowledge.result (λ past idle is.
+    plain_done past idle c.args.changes c.in_ok-xid.xid c.flushed-number.result c.calls_of.result _ c.deref.result.now c.log.new.log (d2.disk c.log.new.storage.value) c.acknowledge.new.self c.acknowledge.result (plain past idle is)
+    (spelt_now c.args.changes c.in_ok-xid.xid c.spell.new.self c.spell.new.self refl (spells.spelt fits))
+    (room_now Install c.args.changes _ (spells.fits fits) past idle is) one c.flushed-number.ensures c.calls_of.ensures c.acknowledge.ensures.acknowledges c.acknowledge.ensures.reply)

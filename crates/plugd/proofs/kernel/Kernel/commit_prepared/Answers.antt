@@ -18,52 +18,52 @@ prepare-requires g c =
     let r = c.requires.executed in
     let same = c.in_ok-fits.ensures.spells.same in
     let ready = to_prepare c.args.statement.now c.args.changes _ c.give.new.self c.in_ok-xid.xid c.spell.new.self c.requires.prepared c.in_ok-xid.ensures.given same in
-    record { ready = (r.0, r.1, c.args.statement.now, r.2, ready r.0 r.1 r.2 r.3 r.4) }
+    record { ready = (r.0, r.1, c.args.statement.now, c.args.changes, ready r.0 r.1 r.2) }
 
 pub returns-in_err-prepare-clause-commits : goal.returns-in_err-prepare-clause-commits
 returns-in_err-prepare-clause-commits g c =
     let same = c.in_ok-fits.ensures.spells.same in
     let ready = to_prepare c.args.statement.now c.args.changes _ c.give.new.self c.in_ok-xid.xid c.spell.new.self c.requires.prepared c.in_ok-xid.ensures.given same in
     commits_err c.from_residual-in_err-prepare.result c.from_residual-in_err-prepare.ensures.0 c.args.statement.now c.args.changes _ _
-    (λ past idle it one is. c.in_err-prepare.ensures.prepares.err past idle c.args.statement.now it (ready past idle it one is))
+    (λ past idle is. c.in_err-prepare.ensures.prepares.err past idle c.args.statement.now c.args.changes (ready past idle is))
 
 pub undo-requires : goal.undo-requires
 undo-requires g c =
     let r = c.requires.executed in
     let same = c.in_ok-fits.ensures.spells.same in
     let ready = to_prepare c.args.statement.now c.args.changes _ c.give.new.self c.in_ok-xid.xid c.spell.new.self c.requires.prepared c.in_ok-xid.ensures.given same in
-    record { ready = (r.0, r.1, c.args.statement.now, r.2, c.in_ok-xid.xid, inl (c.in_ok-prepare.ensures.prepares.full r.0 r.1 c.args.statement.now r.2 (ready r.0 r.1 r.2 r.3 r.4) (ap Ok c.in-Full.is))) }
+    record { ready = (r.0, r.1, c.args.statement.now, c.args.changes, c.in_ok-xid.xid, inl (c.in_ok-prepare.ensures.prepares.full r.0 r.1 c.args.statement.now c.args.changes (ready r.0 r.1 r.2) (ap Ok c.in-Full.is))) }
 
 pub returns-in-Full-clause-commits : goal.returns-in-Full-clause-commits
 returns-in-Full-clause-commits g c =
     let same = c.in_ok-fits.ensures.spells.same in
     let ready = to_prepare c.args.statement.now c.args.changes _ c.give.new.self c.in_ok-xid.xid c.spell.new.self c.requires.prepared c.in_ok-xid.ensures.given same in
-    commits_ok c.args.statement.now c.args.changes _ _ c.undo.result (λ past idle it one is.
-    c.undo.ensures.undoes.ok past idle c.args.statement.now it c.in_ok-xid.xid c.requires.prepared (inl (c.in_ok-prepare.ensures.prepares.full past idle c.args.statement.now it (ready past idle it one is) (ap Ok c.in-Full.is))) tt)
+    commits_ok c.args.statement.now c.args.changes _ _ c.undo.result (λ past idle is.
+    c.undo.ensures.undoes.ok past idle c.args.statement.now c.args.changes c.in_ok-xid.xid c.requires.prepared (inl (c.in_ok-prepare.ensures.prepares.full past idle c.args.statement.now c.args.changes (ready past idle is) (ap Ok c.in-Full.is))) tt)
 
 pub returns-in-Halted-clause-commits : goal.returns-in-Halted-clause-commits
 returns-in-Halted-clause-commits g c =
     let same = c.in_ok-fits.ensures.spells.same in
     let ready = to_prepare c.args.statement.now c.args.changes _ c.give.new.self c.in_ok-xid.xid c.spell.new.self c.requires.prepared c.in_ok-xid.ensures.given same in
-    commits_ok c.args.statement.now c.args.changes _ _ c.halt.result (λ past idle it one is.
+    commits_ok c.args.statement.now c.args.changes _ _ c.halt.result (λ past idle is.
     halted_as past _ c.in-Halted.cause c.args.statement.now c.halt.new.self c.halt.result c.requires.prepared c.halt.ensures.server c.halt.ensures.reply
-    (c.in_ok-prepare.ensures.prepares.halted past idle c.args.statement.now it (ready past idle it one is) c.in-Halted.cause (ap Ok c.in-Halted.is)))
+    (c.in_ok-prepare.ensures.prepares.halted past idle c.args.statement.now c.args.changes (ready past idle is) c.in-Halted.cause (ap Ok c.in-Halted.is)))
 
 pub undo-requires-then-not-fits : goal.undo-requires-then-not-fits
 undo-requires-then-not-fits g c =
     let r = c.requires.executed in
     let same = c.in_ok-fits.ensures.spells.same in
     let ready = to_prepare c.args.statement.now c.args.changes _ c.give.new.self c.in_ok-xid.xid c.spell.new.self c.requires.prepared c.in_ok-xid.ensures.given same in
-    record { ready = (r.0, r.1, c.args.statement.now, r.2, c.in_ok-xid.xid, inr (c.in_ok-prepare.ensures.prepares.done r.0 r.1 c.args.statement.now r.2 (ready r.0 r.1 r.2 r.3 r.4) (ap Ok c.in-Done.is))) }
+    record { ready = (r.0, r.1, c.args.statement.now, c.args.changes, c.in_ok-xid.xid, inr (c.in_ok-prepare.ensures.prepares.done r.0 r.1 c.args.statement.now c.args.changes (ready r.0 r.1 r.2) (ap Ok c.in-Done.is))) }
 
 pub returns-then-not-fits-clause-commits : goal.returns-then-not-fits-clause-commits
 returns-then-not-fits-clause-commits g c =
     let same = c.in_ok-fits.ensures.spells.same in
     let ready = to_prepare c.args.statement.now c.args.changes _ c.give.new.self c.in_ok-xid.xid c.spell.new.self c.requires.prepared c.in_ok-xid.ensures.given same in
     let spent = c.in_ok-fits.ensures.spells.spent (ap Ok c.if-not-fits.true) in
-    commits_ok c.args.statement.now c.args.changes _ _ c.undo-then-not-fits.result (λ past idle it one is.
-    c.undo-then-not-fits.ensures.undoes.ok past idle c.args.statement.now it c.in_ok-xid.xid c.requires.prepared (inr (c.in_ok-prepare.ensures.prepares.done past idle c.args.statement.now it (ready past idle it one is) (ap Ok c.in-Done.is)))
-    (spent_now c.args.statement.now c.args.changes _ spent past idle it one is))
+    commits_ok c.args.statement.now c.args.changes _ _ c.undo-then-not-fits.result (λ past idle is.
+    c.undo-then-not-fits.ensures.undoes.ok past idle c.args.statement.now c.args.changes c.in_ok-xid.xid c.requires.prepared (inr (c.in_ok-prepare.ensures.prepares.done past idle c.args.statement.now c.args.changes (ready past idle is) (ap Ok c.in-Done.is)))
+    (spent_now c.args.statement.now c.args.changes _ spent past idle is))
 
 pub finish-requires : goal.finish-requires
 finish-requires g c =
@@ -76,10 +76,10 @@ finish-requires g c =
       ready = (
         r.0,
         r.1,
-        r.2,
-        c.in_ok-prepare.ensures.prepares.done r.0 r.1 c.args.statement.now r.2 (ready r.0 r.1 r.2 r.3 r.4) (ap Ok c.in-Done.is),
-        spelt_now c.args.changes r.2 c.in_ok-xid.xid c.spell.new.self c.prepare.new.self.server r.3 c.in_ok-prepare.ensures.server (spells.spelt fits),
-        room_now c.args.statement.now c.args.changes _ (spells.fits fits) r.0 r.1 r.2 r.3 r.4,
+        c.args.changes,
+        c.in_ok-prepare.ensures.prepares.done r.0 r.1 c.args.statement.now c.args.changes (ready r.0 r.1 r.2) (ap Ok c.in-Done.is),
+        spelt_now c.args.changes c.in_ok-xid.xid c.spell.new.self c.prepare.new.self.server c.in_ok-prepare.ensures.server (spells.spelt fits),
+        room_now c.args.statement.now c.args.changes _ (spells.fits fits) r.0 r.1 r.2,
         subst (λ (s : Server). vec_len s.acks < vec_capacity s.acks) (sym c.in_ok-prepare.ensures.server) (spells.room fits),
       );
     }
@@ -90,7 +90,7 @@ returns-clause-commits g c =
     let ready = to_prepare c.args.statement.now c.args.changes _ c.give.new.self c.in_ok-xid.xid c.spell.new.self c.requires.prepared c.in_ok-xid.ensures.given same in
     let fits = ap Ok c.if-not-fits.false in
     let spells = c.in_ok-fits.ensures.spells in
-    commits_ok c.args.statement.now c.args.changes _ _ c.finish.result (λ past idle it one is.
-    c.finish.ensures.finishes.ok past idle it (c.in_ok-prepare.ensures.prepares.done past idle c.args.statement.now it (ready past idle it one is) (ap Ok c.in-Done.is))
-    (spelt_now c.args.changes it c.in_ok-xid.xid c.spell.new.self c.prepare.new.self.server one c.in_ok-prepare.ensures.server (spells.spelt fits))
-    (room_now c.args.statement.now c.args.changes _ (spells.fits fits) past idle it one is))
+    commits_ok c.args.statement.now c.args.changes _ _ c.finish.result (λ past idle is.
+    c.finish.ensures.finishes.ok past idle c.args.changes (c.in_ok-prepare.ensures.prepares.done past idle c.args.statement.now c.args.changes (ready past idle is) (ap Ok c.in-Done.is))
+    (spelt_now c.args.changes c.in_ok-xid.xid c.spell.new.self c.prepare.new.self.server c.in_ok-prepare.ensures.server (spells.spelt fits))
+    (room_now c.args.statement.now c.args.changes _ (spells.fits fits) past idle is))
