@@ -106,7 +106,7 @@ abbrev effect_in : Result Effect Refusal → Effect → Effect
 effect_in (Ok it) other = it
 effect_in (Err refusal) other = other
 
-granted_is : (o : Option Refusal) (effect it : Effect) → refused_or o (Ok effect) ≡ Ok it → it ≡ effect
+pub granted_is : (o : Option Refusal) (effect it : Effect) → refused_or o (Ok effect) ≡ Ok it → it ≡ effect
 granted_is None effect it is = sym (ap (λ (r : Result Effect Refusal). effect_in r effect) is)
 granted_is (Some r) effect it is = cc
 

@@ -14,4 +14,5 @@ pub mod AddedLemmas
 pub mod BackLemmas
 pub mod MakeLemmas
 pub mod ExecuteLemmas
+pub mod SpeltLemmas
 pub mod PlanningLemmas

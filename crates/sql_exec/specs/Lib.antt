@@ -4,6 +4,7 @@ pub mod Found
 pub mod CarriesOut
 pub mod Selects
 pub mod Changes
+pub mod Spelt
 pub mod Inserts
 pub mod Makes
 pub mod Executes

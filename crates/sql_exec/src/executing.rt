@@ -7,6 +7,7 @@ ghost use Rattle.engine_api.specs.Many.{IsAtWork, working};
 ghost use Rattle.sql_exec.specs.CarriesOut.{CarriesOut, MayFail};
 ghost use Rattle.sql_exec.specs.Executes.{plan_effect, planned_state, refused_state, CanExecute};
 ghost use Rattle.sql_exec.specs.Selects.{select_outcome, CanSelect, IsInOrder};
+ghost use Rattle.sql_exec.specs.Spelt.{CanBeSpelt};
 
 use crate::fault::ExecFault;
 use crate::inserting::{Target, insert};
@@ -38,6 +39,7 @@ fn answer_rows(
         (disk volume.old) (disk volume.new) }
     ensures ok { IsInOrder plan.now.work plan.now.schema (state engine.old)
         → IfOk result (λ it. select_outcome plan.now (state engine.old) ≡ Ok it) }
+    ensures spelt { IfOk result CanBeSpelt }
     ensures err { IfErr result (MayFail (result_err (select_outcome plan.now (state engine.old)))
         (kind engine.old).files (disk volume.old).told) }
 {
@@ -50,7 +52,7 @@ fn answer_rows(
 /// A SELECT by key answers so where the rows of its table are in the order of the key, as those of a log are.
 ///
 /// `txn` is its transaction, and `open_bytes` the bytes that this had in the log before. `cursor` is set where rows are scanned. After any
-/// fault but `Device` the live tables are as before.
+/// fault but `Device` the live tables are as before. What it changes can be spelt in the log.
 ///
 /// `Refused` exactly by the definition of the statement's effect, unless another fault comes first; `Device`; `NotAVolume`, where contents
 /// are not told; `Memory`.
@@ -75,6 +77,7 @@ pub fn execute(
         (state engine.new) (holds engine.new) (disk volume.old) (disk volume.new) }
     ensures ok { IsInOrder plan.now.work plan.now.schema (state engine.old) → IfOk result
         (λ it. plan_effect open_bytes plan.now (kind engine.old) (state engine.old) ≡ Ok it) }
+    ensures spelt { IfOk result CanBeSpelt }
     ensures err { IfErr result (MayFail
         (result_err (plan_effect open_bytes plan.now (kind engine.old) (state engine.old)))
         (kind engine.old).files (disk volume.old).told) }

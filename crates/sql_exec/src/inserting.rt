@@ -18,6 +18,7 @@ ghost use Rattle.sql_exec.specs.Faults.{FailsFor};
 ghost use Rattle.sql_exec.specs.CarriesOut.{CarriesOut};
 ghost use Rattle.sql_exec.specs.Changes.{with_changes};
 ghost use Rattle.sql_exec.specs.Inserts.{insert_of, inserts_of, insert_outcome, rows_outcome, put_refusal, puts_refusal, CanInsert, CanPut, CanPutAll, Gives, Puts, WritesRow};
+ghost use Rattle.sql_exec.specs.Spelt.{CanBeSpelt};
 
 use crate::fault::ExecFault;
 use disk_model::Storage;
@@ -204,6 +205,7 @@ fn effect_of_rows(
     requires rows { All (IsRow schema.now) rows.items }
     ensures ok { IfOk result (λ it.
         rows_outcome open_bytes table.now schema.now rows.items ≡ Ok it) }
+    ensures spelt { IfOk result CanBeSpelt }
     ensures err { IfErr result
         (FailsFor (result_err (rows_outcome open_bytes table.now schema.now rows.items))) }
 {
@@ -243,6 +245,7 @@ fn insert_rows(
     ensures effect { Gives (kind engine.old).files (disk volume.old).told
         (insert_outcome target.now.open_bytes target.now.table.now target.now.schema.now rows.items
         (state engine.old)) result }
+    ensures spelt { IfOk result CanBeSpelt }
 {
     match add_rows(
         engine,
@@ -292,6 +295,7 @@ pub(crate) fn insert(
     ensures effect { Gives (kind engine.old).files (disk volume.old).told
         (insert_outcome target.now.open_bytes target.now.table.now target.now.schema.now
         (written rows.now) (state engine.old)) result }
+    ensures spelt { IfOk result CanBeSpelt }
 {
     match write_rows(alloc, rows) {
         Ok(rows) => insert_rows(alloc, engine, volume, target, rows),

@@ -1,6 +1,8 @@
 //! CREATE and DROP on an engine.
 ghost use Rattle.std.specs.Prelude.{◌≡◌, ◌∷◌, [], false, None, Ok, Err, OnOk, IfOk, IfErr, IsTrue};
 ghost use Rattle.std.specs.Result.{result_err};
+ghost use Rattle.sql_value.specs.Names.{IsName};
+ghost use Rattle.row_format.specs.Changes.{IsFitChange};
 ghost use Rattle.row_format.specs.Schemas.{IsSchema};
 ghost use Rattle.row_format.specs.declared.change.Change.TheVariants.{Create, Drop};
 ghost use Rattle.engine_api.specs.declared.fault.Code.TheVariants.{Full};
@@ -12,6 +14,7 @@ ghost use Rattle.sql_exec.specs.CarriesOut.{CarriesAlone};
 ghost use Rattle.sql_effect.specs.Effects.{makes};
 ghost use Rattle.sql_exec.specs.Faults.{FailsFor};
 ghost use Rattle.sql_exec.specs.Makes.{create_outcome, not_made, CanCreate, CanDrop};
+ghost use Rattle.sql_exec.specs.Spelt.{CanBeSpelt};
 
 use crate::fault::ExecFault;
 use engine_api::{Engine, EngineFault};
@@ -60,6 +63,13 @@ fn remove(engine: &mut Box<dyn Engine + Send>, txn: u32, table: &Name) -> Result
     engine.delete_table(txn, table)
 }
 
+// What a name is: a function that does nothing, with a law for its contract.
+fn named(name: &Name)
+    ensures { IsName name.now }
+{
+    let _bytes = name.as_bytes();
+}
+
 // The change that makes a table in this engine.
 fn create_change(
     alloc: Global,
@@ -67,8 +77,11 @@ fn create_change(
     table: &Name,
     schema: &Schema,
 ) -> Result<Change, AllocError>
-    ensures { IfOk result (λ it. it ≡ Create table.now (kind engine.now).name schema.now) }
+    ensures value { IfOk result (λ it. it ≡ Create table.now (kind engine.now).name schema.now) }
+    ensures fit { IsSchema schema.now → IfOk result IsFitChange }
 {
+    named(table);
+    named(engine.name());
     Ok(Change::Create {
         table: table.copy()?,
         engine: engine.name().copy()?,
@@ -104,6 +117,7 @@ pub(crate) fn create(
         (state engine.old) (state engine.new) (holds engine.old) (holds engine.new) }
     ensures ok { IfOk result (λ it.
         create_outcome table.now schema.now (kind engine.old) (state engine.old) ≡ Ok it) }
+    ensures spelt { IfOk result CanBeSpelt }
     ensures err { IfErr result (FailsFor
         (result_err (create_outcome table.now schema.now (kind engine.old) (state engine.old)))) }
 {
@@ -130,8 +144,10 @@ pub(crate) fn drop_table(
     ensures carries { CarriesAlone result (with_change txn (Drop table.now) (state engine.old))
         (state engine.old) (state engine.new) (holds engine.old) (holds engine.new) }
     ensures ok { IfOk result (λ it. it ≡ makes (Drop table.now)) }
+    ensures spelt { IfOk result CanBeSpelt }
     ensures err { IfErr result (FailsFor None) }
 {
+    named(table);
     let table_copy = table.copy()?;
     let effect = makes(alloc, Change::Drop { table: table_copy })?;
     match remove(engine, txn, table) {
