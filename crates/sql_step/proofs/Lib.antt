@@ -1,0 +1,4 @@
+pub mod LookLemmas
+pub mod CarryLemmas
+pub mod StepLemmas
+pub mod LawLemmas

@@ -1,0 +1,5 @@
+pub mod Catalogs
+pub mod Looks
+pub mod Outcomes
+pub mod Steps
+pub mod Logs
