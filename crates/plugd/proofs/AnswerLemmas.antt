@@ -11,14 +11,14 @@ use Rattle.plugd.specs.declared.server.Server.{Server}
 use Rattle.plugd.specs.Command.{IsCommand}
 use Rattle.plugd.specs.Play.{Turn, IsStatement, next_line, settles, bad, halts, numbers_of}
 use Rattle.plugd.specs.Serve.{Base, Core, rules_of, Serving, Halts}
-use Rattle.plugd.specs.Way.{IsOnWay, SomeOnWay, PlaysOne}
+use Rattle.plugd.specs.Way.{IsOnWay, IsBegun, SomeOnWay, PlaysOne}
 use Rattle.plugd.proofs.CommandLemmas.{command_of_front}
 use Rattle.plugd.proofs.WayLemmas.{plays_push, numbers_same}
 use Rattle.plugd.proofs.GivenLemmas.{served_by}
 
 -- the server, behind one line more
 abbrev pub counted : Server → Server
-counted old = record { alloc = old.alloc; log = old.log; xids = old.xids; seen = old.seen; acks = old.acks; spelling = old.spelling; lines = old.lines + 1; limit = old.limit; halted = old.halted }
+counted old = record { alloc = old.alloc; log = old.log; xids = old.xids; dictionary = old.dictionary; acks = old.acks; spelling = old.spelling; lines = old.lines + 1; limit = old.limit; halted = old.halted }
 
 -- a line that does nothing
 next_now : (base : Base) (lines : List (List ℕ)) (replies : List Reply) (core : Core) (line : List ℕ) (more : List Reply) → (s : Serving base lines replies core)
@@ -38,8 +38,7 @@ next_now base lines replies core line more s turn none = record {
   shows = record {
     line = ap (λ (n : ℕ). n + 1) s.shows.line;
     halted = s.shows.halted;
-    made = s.shows.made;
-    installed = s.shows.installed;
+    catalog = s.shows.catalog;
     count = s.shows.count;
     len = s.shows.len;
   };
@@ -86,8 +85,6 @@ on_way base lines replies core s serves = record {
       count = s.stopped.count;
       whole = s.stopped.whole;
     };
-    made = s.shows.made;
-    installed = s.shows.installed;
     serves = serves;
     is_serving = is;
     met = s.met is;
@@ -101,8 +98,13 @@ on_way base lines replies core s serves = record {
     is : s.state.halted ≡ None
     is = sym s.shows.halted ∙ serves
 
+-- and nothing of it was done
+begun : (base : Base) (lines : List (List ℕ)) (replies : List Reply) (core : Core) → (s : Serving base lines replies core) → core.server.halted ≡ None
+    → IsBegun (record { base = base; lines = lines; replies = replies; state = s.state }) (served_by (counted core.server) core)
+begun base lines replies core s serves = record { way = on_way base lines replies core s serves; catalog = s.shows.catalog (sym s.shows.halted ∙ serves) }
+
 pub some_on_way : (base : Base) (lines : List (List ℕ)) (replies : List Reply) (core : Core) → Serving base lines replies core → core.server.halted ≡ None → SomeOnWay (served_by (counted core.server) core)
-some_on_way base lines replies core s serves = (record { base = base; lines = lines; replies = replies; state = s.state }, on_way base lines replies core s serves)
+some_on_way base lines replies core s serves = (record { base = base; lines = lines; replies = replies; state = s.state }, begun base lines replies core s serves)
 
 -- the count of lines has room
 pub few_lines : (base : Base) (lines : List (List ℕ)) (replies : List Reply) (core : Core) → Serving base lines replies core → length lines < 4294967296 → core.server.lines < 4294967296
@@ -112,12 +114,12 @@ few_lines base lines replies core s few = let shown = s.shows.line in let line =
 pub played_now : (base : Base) (lines : List (List ℕ)) (replies : List Reply) (core new : Core) (front line : List ℕ) (found one : Command) (reply : Reply) → IsCommand front found → found ≡ one → core.server.halted ≡ None
     → PlaysOne one (served_by (counted core.server) core) new (Ok reply) → front ≡ take 80 line → Serving base lines replies core → Serving base (lines ++ line ∷ []) (replies ++ reply ∷ []) new
 played_now base lines replies core new front line found one reply is same serves plays part s =
-    plays.ok (record { base = base; lines = lines; replies = replies; state = s.state }) (on_way base lines replies core s serves) reply refl line (asks front line found one is same part)
+    plays.ok (record { base = base; lines = lines; replies = replies; state = s.state }) (begun base lines replies core s serves) reply refl line (asks front line found one is same part)
 
 -- it is not, for want of memory
 pub unplayed_now : (base : Base) (lines : List (List ℕ)) (replies : List Reply) (core new : Core) (one : Command) (e : AllocError) → core.server.halted ≡ None → PlaysOne one (served_by (counted core.server) core) new (Err e)
     → Serving base lines replies core → Halts base lines replies new
-unplayed_now base lines replies core new one e serves plays s = plays.err (record { base = base; lines = lines; replies = replies; state = s.state }) (on_way base lines replies core s serves)
+unplayed_now base lines replies core new one e serves plays s = plays.err (record { base = base; lines = lines; replies = replies; state = s.state }) (begun base lines replies core s serves)
 
 -- nor was the line read
 pub unread_now : (base : Base) (lines : List (List ℕ)) (replies : List Reply) (core : Core) → Serving base lines replies core → Halts base lines replies core

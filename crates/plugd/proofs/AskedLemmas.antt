@@ -31,7 +31,8 @@ use Rattle.plugd.specs.declared.command.Command.TheVariants as command
 use Rattle.plugd.specs.Play.{is_prepared_for}
 use Rattle.plugd.specs.Serve.{IsCatalogOf, IsJournal}
 use Rattle.plugd.specs.Way.{AreOwn}
-use Rattle.plugd.specs.Asked.{Catalog, after_command, engine_name, table_name, table_schema, row_of, changes_by, refusal_of, refused_unless, full_unless_room, insert_refusal}
+use Rattle.plugd.proofs.DictionaryLemmas.{made_of, catalog_on}
+use Rattle.plugd.specs.Asked.{Catalog, is_made, is_installed, catalog_after, after_command, engine_name, table_name, table_schema, row_of, changes_by, refusal_of, refused_unless, full_unless_room, insert_refusal}
 
 true_false : true ≡ false → ⊥
 true_false e = cc
@@ -156,10 +157,10 @@ granted_own log here command.Bad prepared is live granted = absurd (true_false (
 granted_own log here command.Install prepared is live granted = absurd (true_false (sym prepared))
 granted_own log here command.Create prepared is live granted =
     one_own (change.Create table_name engine_name table_schema) (tables_after log) (bytes_refl engine_name)
-    (not_there (table_named table_name (tables_after log)) (sym is.made ∙ create_granted here.made here.installed (is_some (table_named table_name here.live)) (after_command command.Create here).live granted))
+    (not_there (table_named table_name (tables_after log)) (sym (made_of (tables_after log)) ∙ ap is_made (sym is.definitions) ∙ create_granted (is_made here.definitions) (is_installed here.installed) (is_some (table_named table_name here.live)) (after_command command.Create here).live granted))
 granted_own log here (command.Insert key text) prepared is live granted =
     let row = row_of key text in
-    let found = insert_granted here.made here.installed (table_named table_name here.live) row (after_command (command.Insert key text) here).live granted in
+    let found = insert_granted (is_made here.definitions) (is_installed here.installed) (table_named table_name here.live) row (after_command (command.Insert key text) here).live granted in
     let there = found_in_part engine_name table_name (tables_after log) found.0 (IsDictionary-tables_after log) (sym (ap (table_named table_name) live) ∙ found.1) in
     let it = change.Insert (record { table = table_name; schema = found.0.definition.schema }) row in
     subst (λ (l : List Change). AreOwn l (tables_after log)) (sym (insert_asked here key text found.0.definition.schema (ap schema_found found.1)))
@@ -200,107 +201,7 @@ asked_few (command.Insert key text) here = row (insert_into table_name (schema_f
     row None = omega arith
     row (Some it) = omega arith
 
--- the tables and the installed engines of a log with one transaction more
-tables_more : (log : List Transaction) (t : Transaction) (changes : List Change) → t.changes ≡ changes → tables_after (log ++ t ∷ []) ≡ after_changes changes (tables_after log)
-tables_more log t changes is = tables_after-append log t ∙ ap (λ (cs : List Change). after_changes cs (tables_after log)) is
-
-installed_more : (log : List Transaction) (t : Transaction) (changes : List Change) → t.changes ≡ changes → installed_after (log ++ t ∷ []) ≡ installed_changes changes (installed_after log)
-installed_more log t changes is = installed_after-append log t ∙ ap (λ (cs : List Change). installed_changes cs (installed_after log)) is
-
--- a table behind others is there
-table_appended : (engine : List ℕ) (schema : Schema) (l : List Table) → is_some (table_named table_name (l ++ new_table table_name engine schema ∷ [])) ≡ true
-table_appended engine schema [] = ap is_some (cond_true (bytes_eq table_name table_name) (Some (new_table table_name engine schema)) None (bytes_refl table_name))
-table_appended engine schema (x ∷ l) = elim (cases (is_named table_name x)) [
-  | inl here ↦ ap is_some (cond_true (is_named table_name x) (Some x) (table_named table_name (l ++ new_table table_name engine schema ∷ [])) here)
-  | inr past ↦ ap is_some (cond_false (is_named table_name x) (Some x) (table_named table_name (l ++ new_table table_name engine schema ∷ [])) past) ∙ table_appended engine schema l
-]
-
--- a table that was made is there
-made_there : (ts : List Table) (engine : List ℕ) (schema : Schema) → is_some (table_named table_name (after_change (change.Create table_name engine schema) ts)) ≡ true
-made_there ts engine schema = go (is_some (table_named table_name ts)) refl
-  where
-    go : (b : Bool) → is_some (table_named table_name ts) ≡ b → is_some (table_named table_name (cond (is_some (table_named table_name ts)) ts (ts ++ new_table table_name engine schema ∷ []))) ≡ true
-    go true is = ap (λ (l : List Table). is_some (table_named table_name l)) (cond_true (is_some (table_named table_name ts)) ts (ts ++ new_table table_name engine schema ∷ []) is) ∙ is
-    go false is =
-        ap (λ (l : List Table). is_some (table_named table_name l)) (cond_false (is_some (table_named table_name ts)) ts (ts ++ new_table table_name engine schema ∷ []) is)
-        ∙ table_appended engine schema ts
-
--- a row changes no name
-still_there : (n : List ℕ) (map : TableMap) (row : List Value) (ts : List Table) → is_some (table_named n (after_change (change.Insert map row) ts)) ≡ is_some (table_named n ts)
-still_there n map row [] = refl
-still_there n map row (t ∷ ts) = elim (cases (is_named map.table t)) [
-  | inl here ↦ ap (λ (l : List Table). is_some (table_named n l)) (cond_true (is_named map.table t) (changed (change.Insert map row) t ++ ts) (t ∷ after_change (change.Insert map row) ts) here) ∙ first (rows_after (change.Insert map row) t)
-  | inr past ↦
-      ap (λ (l : List Table). is_some (table_named n l)) (cond_false (is_named map.table t) (changed (change.Insert map row) t ++ ts) (t ∷ after_change (change.Insert map row) ts) past)
-      ∙ behind (still_there n map row ts) (cases (is_named n t))
-]
-  where
-    first : (o : Option (List (List Value))) → is_some (table_named n (with_rows t o ∷ ts)) ≡ is_some (table_named n (t ∷ ts))
-    first None = refl
-    first (Some rows) = go (cases (is_named n t))
-      where
-        go : (is_named n t ≡ true) ⊎ (is_named n t ≡ false) → is_some (table_named n (with_rows t (Some rows) ∷ ts)) ≡ is_some (table_named n (t ∷ ts))
-        go (inl here) = ap is_some (cond_true (is_named n t) (Some (with_rows t (Some rows))) (table_named n ts) here) ∙ sym (ap is_some (cond_true (is_named n t) (Some t) (table_named n ts) here))
-        go (inr past) = ap is_some (cond_false (is_named n t) (Some (with_rows t (Some rows))) (table_named n ts) past) ∙ sym (ap is_some (cond_false (is_named n t) (Some t) (table_named n ts) past))
-
-    behind : is_some (table_named n (after_change (change.Insert map row) ts)) ≡ is_some (table_named n ts) → (is_named n t ≡ true) ⊎ (is_named n t ≡ false) → is_some (table_named n (t ∷ after_change (change.Insert map row) ts)) ≡ is_some (table_named n (t ∷ ts))
-    behind rest (inl here) = ap is_some (cond_true (is_named n t) (Some t) (table_named n (after_change (change.Insert map row) ts)) here) ∙ sym (ap is_some (cond_true (is_named n t) (Some t) (table_named n ts) here))
-    behind rest (inr past) = ap is_some (cond_false (is_named n t) (Some t) (table_named n (after_change (change.Insert map row) ts)) past) ∙ rest ∙ sym (ap is_some (cond_false (is_named n t) (Some t) (table_named n ts) past))
-
-or_true : (b : Bool) → (b || true) ≡ true
-or_true true = refl
-or_true false = refl
-
--- a name behind others is on the list
-name_appended : (l : List (List ℕ)) → list_any (bytes_eq engine_name) (l ++ engine_name ∷ []) ≡ true
-name_appended [] = ap (λ (b : Bool). b || false) (bytes_refl engine_name)
-name_appended (x ∷ l) = ap (λ (b : Bool). bytes_eq engine_name x || b) (name_appended l) ∙ or_true (bytes_eq engine_name x)
-
--- an engine that was installed is on the list
-installed_there : (names : List (List ℕ)) → list_any (bytes_eq engine_name) (installed_change (change.Install engine_name) names) ≡ true
-installed_there names = go (list_any (bytes_eq engine_name) names) refl
-  where
-    go : (b : Bool) → list_any (bytes_eq engine_name) names ≡ b → list_any (bytes_eq engine_name) (cond (list_any (bytes_eq engine_name) names) names (names ++ engine_name ∷ [])) ≡ true
-    go true is = ap (list_any (bytes_eq engine_name)) (cond_true (list_any (bytes_eq engine_name) names) names (names ++ engine_name ∷ []) is) ∙ is
-    go false is = ap (list_any (bytes_eq engine_name)) (cond_false (list_any (bytes_eq engine_name) names) names (names ++ engine_name ∷ []) is) ∙ name_appended names
-
--- changes that make no table of the name, take none, and install no engine, leave the catalog
-stays : (log : List Transaction) (t : Transaction) (here : Catalog) (live : List Table) (changes : List Change) → t.changes ≡ changes → IsCatalogOf log here
-    → is_some (table_named table_name (after_changes changes (tables_after log))) ≡ is_some (table_named table_name (tables_after log))
-    → installed_changes changes (installed_after log) ≡ installed_after log
-    → IsCatalogOf (log ++ t ∷ []) (record { made = here.made; installed = here.installed; live = live })
-stays log t here live changes all is names engines = record {
-  made = is.made ∙ sym (ap (λ (l : List Table). is_some (table_named table_name l)) (tables_more log t changes all) ∙ names);
-  installed = is.installed ∙ sym (ap (list_any (bytes_eq engine_name)) (installed_more log t changes all ∙ engines));
-}
-
 -- The catalog goes on with the log.
 pub catalog_goes : (log : List Transaction) (t : Transaction) (here : Catalog) (asks : Command) → t.changes ≡ changes_by asks here → IsCatalogOf log here
     → IsCatalogOf (log ++ t ∷ []) (after_command asks here)
-catalog_goes log t here command.Settle all is = stays log t here here.live [] all is refl refl
-catalog_goes log t here command.Bad all is = stays log t here here.live [] all is refl refl
-catalog_goes log t here command.Install all is = record {
-  made = is.made ∙ sym (ap (λ (l : List Table). is_some (table_named table_name l)) (tables_more log t (changes_by command.Install here) all));
-  installed = sym (ap (list_any (bytes_eq engine_name)) (installed_more log t (changes_by command.Install here) all) ∙ installed_there (installed_after log));
-}
-catalog_goes log t here command.Create all is = record {
-  made = sym (ap (λ (l : List Table). is_some (table_named table_name l)) (tables_more log t (changes_by command.Create here) all) ∙ made_there (tables_after log) engine_name table_schema);
-  installed = is.installed ∙ sym (ap (list_any (bytes_eq engine_name)) (installed_more log t (changes_by command.Create here) all));
-}
-catalog_goes log t here (command.Insert key text) all is = go (schema_found (table_named table_name here.live)) refl
-  where
-    go : (o : Option Schema) → schema_found (table_named table_name here.live) ≡ o → IsCatalogOf (log ++ t ∷ []) (after_command (command.Insert key text) here)
-    go None at =
-        stays log t here (after_command (command.Insert key text) here).live [] (all ∙ ap (λ (o : Option Schema). option_to_list (insert_into table_name o (row_of key text))) at) is refl refl
-    go (Some schema) at =
-        let map : TableMap = record { table = table_name; schema = schema } in
-        stays log t here (after_command (command.Insert key text) here).live (change.Insert map (row_of key text) ∷ [])
-        (all ∙ insert_asked here key text schema at) is (still_there table_name map (row_of key text) (tables_after log)) refl
-
--- the tables that the engine has go on with the changes
-pub live_goes : (here : Catalog) (asks : Command) → (after_command asks here).live ≡ after_changes (changes_by asks here) here.live
-live_goes here command.Settle = refl
-live_goes here command.Bad = refl
-live_goes here command.Install = refl
-live_goes here command.Create = refl
-live_goes here (command.Insert key text) = refl
+catalog_goes log t here asks all is = subst (λ (cs : List Change). IsCatalogOf (log ++ t ∷ []) (catalog_after cs here)) all (catalog_on log t here is)

@@ -1,10 +1,10 @@
 -- A statement that was executed is taken to its reply.
-use Rattle.std.proofs.Common.{◌≡◌, ℕ, ◌+◌, ◌<◌, ◌≤◌, ◌^◌, List, [], ◌∷◌, length, true, Result, Ok, sym, subst, arith}
+use Rattle.std.proofs.Common.{◌≡◌, ℕ, ◌+◌, ◌<◌, ◌≤◌, ◌^◌, List, [], ◌∷◌, ◌++◌, length, true, Result, Ok, sym, subst, arith}
 use Rattle.std.specs.Prelude.{IsErr}
 use Rattle.std.specs.declared.alloc.AllocError.{AllocError}
 use Rattle.row_format.specs.declared.change.Change.{Change}
 use Rattle.row_format.specs.Changes.{AreFitChanges}
-use Rattle.binlog_file.specs.Binlog.{Carries}
+use Rattle.dictionary.specs.Dictionary.{DictionaryState}
 use Rattle.engine_api.specs.States.{EngineState}
 use Rattle.plugd.specs.declared.command.Command.{Command}
 use Rattle.plugd.specs.declared.command.Command.TheVariants.{Install}
@@ -13,16 +13,18 @@ use Rattle.plugd.specs.declared.reply.Reply.{Reply}
 use Rattle.plugd.specs.declared.reply.Reply.TheVariants.{Halted}
 use Rattle.plugd.specs.declared.server.Server.{Server}
 use Rattle.plugd.specs.declared.xids.XidSet.{XidSet}
+use Rattle.plugd.specs.Asked.{catalog_after}
+use Rattle.plugd.specs.Noting.{dictionary_after, HasCatalog}
 use Rattle.plugd.specs.Play.{is_prepared_for, logged_size}
 use Rattle.plugd.specs.Serve.{Core}
 use Rattle.plugd.specs.Spell.{IsSameBut, with_halt}
-use Rattle.plugd.specs.Way.{Past, IsExecuted, SomeExecuted, IsToPrepare, Commits, PlaysTo, EndsAt, HaltsBy}
+use Rattle.plugd.specs.Way.{Past, IsAhead, IsOnWay, IsExecuted, SomeExecuted, IsToPrepare, IsReadyToLog, Commits, PlaysTo, EndsAt, HaltsBy}
 use Rattle.plugd.proofs.PlainLemmas.{IsPlain}
-use Rattle.plugd.proofs.SpellLemmas.{of_changes}
 use Rattle.plugd.proofs.StepLemmas.{by_err}
 use Rattle.plugd.proofs.WayLemmas.{ends_now, halted_now}
 use Rattle.plugd.proofs.EndLemmas.{prepared_statement}
-use Rattle.plugd.proofs.GivenLemmas.{served_by, with_xids, like_given, like_spelt, ahead_like, Gave, given_next, given_way}
+use Rattle.plugd.proofs.GivenLemmas.{served_by, with_xids, like_given, like_spelt, ahead_like, Gave, given_next, given_way, spelt_way}
+use Rattle.plugd.proofs.NotingLemmas.{has_noted}
 
 -- what holds of each run that came to this
 abbrev pub EachExecuted : Command → List Change → Core → (Past → EngineState → Type 0) → Type 0
@@ -56,36 +58,57 @@ pub ends_ungiven : (asks : Command) (changes : List Change) (core : Core) (xids 
 ends_ungiven asks changes core xids past idle is =
     ends_now past (served_by (with_xids xids core.server) core) (ahead_like past core (with_xids xids core.server) (like_given xids core.server) is.way.ahead)
 
--- it was not spelt
-pub ends_unspelt : (asks : Command) (changes : List Change) (core : Core) (xids : XidSet) (server : Server) → IsSameBut (with_xids xids core.server) server → EachExecuted asks changes core (λ past idle. EndsAt past (served_by server core))
-ends_unspelt asks changes core xids server same past idle is =
-    ends_now past (served_by server core) (ahead_like past core server (like_spelt xids core.server server same) is.way.ahead)
+-- it was not spelt, or not noted
+pub ends_unspelt : (past : Past) (core : Core) (server : Server) → IsSameBut core.server server → IsAhead past core → EndsAt past (served_by server core)
+ends_unspelt past core server same ahead = ends_now past (served_by server core) (ahead_like past core server (like_spelt core.server server same) ahead)
 
 -- it is to be prepared under the xid that was given
-pub to_prepare : (asks : Command) (changes : List Change) (core : Core) (xids : XidSet) (xid : ℕ) (server : Server) → is_prepared_for asks ≡ true → Gave core.server.xids xids xid → IsSameBut (with_xids xids core.server) server
-    → EachExecuted asks changes core (λ past idle. IsToPrepare past idle asks changes xid (served_by server core))
-to_prepare asks changes core xids xid server touches gave same past idle is = record {
+pub to_prepare : (asks : Command) (changes : List Change) (core : Core) (xids : XidSet) (xid : ℕ) → is_prepared_for asks ≡ true → Gave core.server.xids xids xid
+    → EachExecuted asks changes core (λ past idle. IsToPrepare past idle asks changes xid (served_by (with_xids xids core.server) core))
+to_prepare asks changes core xids xid touches gave past idle is = record {
   touches = touches;
-  executed = record { way = given_way past idle core xids xid server is.way gave same; granted = is.granted; state = is.state };
+  executed = record { way = given_way past idle core xids xid is.way gave; catalog = is.catalog; granted = is.granted; state = is.state };
   next = given_next past idle core xids xid is.way gave;
 }
 
--- it is spelt as the run knows it
-pub spelt_now : (changes : List Change) (xid : ℕ) (server new : Server) → new ≡ server → Carries server.log server.spelling.items (of_changes xid changes ∷ []) → Carries new.log new.spelling.items (of_changes xid changes ∷ [])
-spelt_now changes xid server new same carries = subst (λ (s : Server). Carries s.log s.spelling.items (of_changes xid changes ∷ [])) (sym same) carries
+-- it is prepared, and then spelt
+pub ready_spelt : (past : Past) (idle : EngineState) (asks : Command) (changes : List Change) (xid : ℕ) (core : Core) (server : Server) → IsSameBut core.server server
+    → IsReadyToLog past idle asks changes xid core → IsReadyToLog past idle asks changes xid (served_by server core)
+ready_spelt past idle asks changes xid core server same is = record {
+  touches = is.touches;
+  way = spelt_way past idle (past.state.given ++ xid ∷ []) core server same is.way;
+  granted = is.granted;
+  next = is.next;
+  state = is.state;
+}
+
+-- the catalog is that of the dictionary of the same server
+pub catalog_as : (past : Past) (old new : Server) → new ≡ old → HasCatalog old.dictionary past.state.catalog → HasCatalog new.dictionary past.state.catalog
+catalog_as past old new same has = subst (λ (s : Server). HasCatalog s.dictionary past.state.catalog) (sym same) has
+
+-- its changes are noted
+pub noted_now : (past : Past) (changes : List Change) (old new : DictionaryState) → HasCatalog old past.state.catalog → new ≡ dictionary_after changes old → HasCatalog new (catalog_after changes past.state.catalog)
+noted_now past changes old new has noted =
+    subst (λ (d : DictionaryState). HasCatalog d (catalog_after changes past.state.catalog)) (sym noted) (has_noted changes old past.state.catalog has)
+
+-- they are not
+pub unnoted_now : (past : Past) (old new : DictionaryState) → HasCatalog old past.state.catalog → new ≡ old → HasCatalog new past.state.catalog
+unnoted_now past old new has same = subst (λ (d : DictionaryState). HasCatalog d past.state.catalog) (sym same) has
 
 -- the log has room for it
-pub room_now : (asks : Command) (changes : List Change) (core : Core) → core.server.log.len + logged_size changes ≤ core.server.limit → EachExecuted asks changes core (λ past idle. past.state.len + logged_size changes ≤ past.base.limit)
-room_now asks changes core fits past idle is =
-    let limit = is.way.ahead.fixed.limit in
-    let len = is.way.len in
+pub room_now : (past : Past) (idle : EngineState) (given : List ℕ) (changes : List Change) (core : Core) → IsOnWay past idle given core → core.server.log.len + logged_size changes ≤ core.server.limit
+    → past.state.len + logged_size changes ≤ past.base.limit
+room_now past idle given changes core way fits =
+    let limit = way.ahead.fixed.limit in
+    let len = way.len in
     omega (arith, fits, limit, len)
 
 -- the log has none
-pub spent_now : (asks : Command) (changes : List Change) (core : Core) → core.server.limit < core.server.log.len + logged_size changes → EachExecuted asks changes core (λ past idle. past.base.limit < past.state.len + logged_size changes)
-spent_now asks changes core spent past idle is =
-    let limit = is.way.ahead.fixed.limit in
-    let len = is.way.len in
+pub spent_now : (past : Past) (idle : EngineState) (given : List ℕ) (changes : List Change) (core : Core) → IsOnWay past idle given core → core.server.limit < core.server.log.len + logged_size changes
+    → past.base.limit < past.state.len + logged_size changes
+spent_now past idle given changes core way spent =
+    let limit = way.ahead.fixed.limit in
+    let len = way.len in
     omega (arith, spent, limit, len)
 
 -- it is halted before anything was logged
@@ -97,11 +120,20 @@ halted_as past core cause asks server reply touches server_is reply_is by =
     (halted_now past core cause asks (prepared_statement asks touches) by))
 
 -- an INSTALL has its xid
-pub plain_given : (changes : List Change) (core : Core) (xids : XidSet) (xid : ℕ) (server : Server) → Gave core.server.xids xids xid → IsSameBut (with_xids xids core.server) server
-    → EachExecuted Install changes core (λ past idle. IsPlain past idle changes xid (served_by server core))
-plain_given changes core xids xid server gave same past idle is = record {
-  way = given_way past idle core xids xid server is.way gave same;
+pub plain_given : (changes : List Change) (core : Core) (xids : XidSet) (xid : ℕ) → Gave core.server.xids xids xid
+    → EachExecuted Install changes core (λ past idle. IsPlain past idle changes xid (served_by (with_xids xids core.server) core))
+plain_given changes core xids xid gave past idle is = record {
+  way = given_way past idle core xids xid is.way gave;
   granted = is.granted;
   next = given_next past idle core xids xid is.way gave;
+  state = is.state;
+}
+
+-- and is spelt
+pub plain_spelt : (past : Past) (idle : EngineState) (changes : List Change) (xid : ℕ) (core : Core) (server : Server) → IsSameBut core.server server → IsPlain past idle changes xid core → IsPlain past idle changes xid (served_by server core)
+plain_spelt past idle changes xid core server same is = record {
+  way = spelt_way past idle (past.state.given ++ xid ∷ []) core server same is.way;
+  granted = is.granted;
+  next = is.next;
   state = is.state;
 }

@@ -24,9 +24,8 @@ use Rattle.plugd.specs.declared.command.Command.TheVariants as command
 use Rattle.plugd.specs.declared.reply.Reply.{Reply}
 use Rattle.plugd.specs.declared.reply.Reply.TheVariants.{Done, Halted}
 use Rattle.plugd.specs.declared.reply.HaltCause.{HaltCause}
-use Rattle.plugd.specs.declared.seen.Seen.{Seen}
 use Rattle.plugd.specs.Serve.{session}
-use Rattle.plugd.specs.Asked.{Catalog, after_command, count_of}
+use Rattle.plugd.specs.Asked.{after_command, catalog_after, count_of}
 use Rattle.plugd.specs.Changed.{with_changes}
 use Rattle.plugd.specs.LogOne.{IsDurable}
 use Rattle.plugd.specs.Crash.{all_of}
@@ -39,14 +38,14 @@ use Rattle.volume_rules.proofs.SameLemmas.{read_by, same_back, volume_same}
 use Rattle.volume_rules.proofs.StepLemmas.{none_left}
 use Rattle.plugd.specs.declared.xids.XidSet.{XidSet}
 use Rattle.plugd.specs.XidSet.{Knows}
-use Rattle.plugd.specs.Seen.{seen_after}
+use Rattle.plugd.specs.Noting.{HasCatalog}
 use Rattle.plugd.specs.Serve.{IsCatalogOf}
 use Rattle.plugd.specs.Xids.{xids_of}
 use Rattle.plugd.specs.Play.{State, logged, halted_at, logged_size, IsStatement, IsAskedBy, IsNextGiven, is_prepared_for, fails_at, logs}
 use Rattle.plugd.specs.Serve.{Core, rules_of, reader_of, shelf_of, CouldRecover, IsCause, Secure, IsIdle, IsAtRest, IsJournal}
-use Rattle.plugd.specs.Way.{Past, IsAhead, IsGranted, IsReadyToLog, PlaysTo}
+use Rattle.plugd.specs.Way.{Past, IsAhead, IsGranted, IsReadyToLog, IsNoted, PlaysTo}
 use Rattle.plugd.proofs.AheadLemmas.{GoesOn}
-use Rattle.plugd.proofs.AskedLemmas.{catalog_goes, live_goes}
+use Rattle.plugd.proofs.AskedLemmas.{catalog_goes}
 use Rattle.plugd.proofs.LogLemmas.{Logs}
 use Rattle.plugd.specs.Spell.{with_halt}
 use Rattle.plugd.proofs.WayLemmas.{plays_push, numbers_same, numbers-append}
@@ -129,10 +128,10 @@ prepared_statement asks is = go asks is
 -- A fault at the transaction, which may be in the log, halts the run.
 pub halted_at_it : (past : Past) (asks : Command) (changes : List Change) (xid : ℕ) (was core : Core) (cause : HaltCause) → IsStatement asks → IsAhead past was → IsGranted past asks changes → IsNextGiven (rules_of past.base) past.state xid
     → past.state.len + logged_size changes ≤ past.base.limit
-    → core.server.acks.items ≡ was.server.acks.items → core.server.lines ≡ was.server.lines → core.server.limit ≡ was.server.limit → core.server.seen ≡ was.server.seen → core.engine.kind ≡ was.engine.kind
+    → core.server.acks.items ≡ was.server.acks.items → core.server.lines ≡ was.server.lines → core.server.limit ≡ was.server.limit → core.engine.kind ≡ was.engine.kind
     → Secure past.base (so_far past ++ of_changes xid changes ∷ []) core → IsCause past.base core.engine.kind core.disk cause
     → PlaysTo past asks (Halted cause) (record { server = with_halt cause core.server; engine = core.engine; disk = core.disk })
-halted_at_it past asks changes xid was core cause statement ahead granted next room acks lines limit seen kind secure is line asks_so = record {
+halted_at_it past asks changes xid was core cause statement ahead granted next room acks lines limit kind secure is line asks_so = record {
   state = after;
   fixed = record { kind = subst (λ k. IsJournal k) (sym kind) ahead.fixed.kind; limit = limit ∙ ahead.fixed.limit; small = ahead.fixed.small };
   line = omega (arith, ahead.line, length-append past.lines (line ∷ []));
@@ -148,8 +147,7 @@ halted_at_it past asks changes xid was core cause statement ahead granted next r
   shows = record {
     line = lines ∙ ahead.counted;
     halted = refl;
-    made = ap (λ (x : Seen). x.made) seen ∙ ahead.made;
-    installed = ap (λ (x : Seen). x.installed) seen ∙ ahead.installed;
+    catalog = λ none. absurd (no_none none);
     count = λ none. absurd (no_none none);
     len = λ none. absurd (no_none none);
   };
@@ -177,7 +175,7 @@ pub record IsDone (past : Past) (idle : EngineState) (asks : Command) (changes :
   pub durable : IsTrue core.disk.told → IsDurable core.server.log (so_far past ++ of_changes xid changes ∷ []) core.disk
   pub xids : core.server.xids ≡ was.server.xids
   pub acks : core.server.acks.items ≡ was.server.acks.items ++ (record { number = past.state.count + 1; call = core.disk.calls }) ∷ []
-  pub seen : core.server.seen ≡ seen_after asks was.server.seen
+  pub noted : IsNoted past core changes
   pub lines : core.server.lines ≡ was.server.lines
   pub limit : core.server.limit ≡ was.server.limit
   pub halted : core.server.halted ≡ None
@@ -189,21 +187,6 @@ after_of : (past : Past) (idle : EngineState) (asks : Command) (changes : List C
     → core.engine.state ≡ begun_state (after_commit (share xid changes) (past.state.count + 1) (after_prepare (share xid changes) idle.gist))
 after_of past idle asks changes xid was core d =
     d.state ∙ ap (committed_state session xid (past.state.count + 1)) (prepared_is_state past idle asks changes xid was d.ready)
-
--- what it noted of the catalog
-made_after : (asks : Command) (seen : Seen) (here : Catalog) → is_prepared_for asks ≡ true → seen.made ≡ here.made → (seen_after asks seen).made ≡ (after_command asks here).made
-made_after command.Settle seen here touches is = is
-made_after command.Bad seen here touches is = is
-made_after command.Install seen here touches is = is
-made_after command.Create seen here touches is = refl
-made_after (command.Insert key text) seen here touches is = is
-
-installed_after_it : (asks : Command) (seen : Seen) (here : Catalog) → is_prepared_for asks ≡ true → seen.installed ≡ here.installed → (seen_after asks seen).installed ≡ (after_command asks here).installed
-installed_after_it command.Settle seen here touches is = is
-installed_after_it command.Bad seen here touches is = is
-installed_after_it command.Install seen here touches is = refl
-installed_after_it command.Create seen here touches is = is
-installed_after_it (command.Insert key text) seen here touches is = is
 
 -- the shelf with an engine of this kind, and that engine with a gist
 abbrev shelf_as : Kind → List ShelfEngine
@@ -231,8 +214,7 @@ done_now past idle asks changes xid was core d line asks_so = record {
   shows = record {
     line = d.lines ∙ ahead.counted;
     halted = d.halted;
-    made = ap (λ (x : Seen). x.made) d.seen ∙ made_after asks was.server.seen past.state.catalog d.touches ahead.made;
-    installed = ap (λ (x : Seen). x.installed) d.seen ∙ installed_after_it asks was.server.seen past.state.catalog d.touches ahead.installed;
+    catalog = λ none. subst (λ (cs : List Change). HasCatalog core.server.dictionary (catalog_after cs past.state.catalog)) d.ready.granted.makes.all d.noted;
     count = λ none. d.count;
     len = λ none. d.len;
   };
@@ -241,7 +223,7 @@ done_now past idle asks changes xid was core d line asks_so = record {
     pending = refl;
     kept = refl;
     none_prepared = none_left xid idle.gist (share xid changes) d.ready.way.was_idle.none_prepared refl;
-    live = ap (after_changes changes) d.ready.way.was_idle.live ∙ ap (λ (l : List Change). after_changes l past.state.catalog.live) d.ready.granted.makes.all ∙ sym (live_goes past.state.catalog asks);
+    live = ap (after_changes changes) d.ready.way.was_idle.live ∙ ap (λ (l : List Change). after_changes l past.state.catalog.live) d.ready.granted.makes.all;
     last = omega arith;
   });
   rest = λ told none. rest_now told;

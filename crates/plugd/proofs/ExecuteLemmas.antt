@@ -1,6 +1,7 @@
 -- The execution of a statement, by its outcome.
 use Rattle.std.proofs.Common.{◌≡◌, ℕ, ℤ, ◌<◌, ◌^◌, List, [], ◌∷◌, length, Option, Some, None, Bool, true, false, cond, Result, Ok, refl, sym, ◌∙◌, ap, subst, arith}
 use Rattle.std.specs.Prelude.{IsErr, is_some, ◌||◌}
+use Rattle.std.specs.Str.{bytes_eq}
 use Rattle.std.specs.List.{list_any}
 use Rattle.std.specs.declared.alloc.AllocError.{AllocError}
 use Rattle.sql_value.specs.declared.value.Value.{Value}
@@ -16,16 +17,18 @@ use Rattle.row_format.proofs.SameLemmas.{same_schema_refl, same_schema-true}
 use Rattle.log_tables.specs.declared.gist.Prepared.{Prepared}
 use Rattle.log_tables.specs.declared.table.Table.{Table}
 use Rattle.log_tables.specs.Tables.{table_named}
+use Rattle.dictionary.specs.Dictionary.{DictionaryState, definition_named}
 use Rattle.engine_api.specs.States.{EngineState, Pending, without_txn, changes_in}
 use Rattle.engine_api.specs.Live.{live_schema, schema_found, is_taken_in, meets_any, is_under, IsApart}
 use Rattle.plugd.specs.declared.command.Command.{Command}
 use Rattle.plugd.specs.declared.command.Command.TheVariants as command
 use Rattle.plugd.specs.declared.statement.Executed.{Executed}
 use Rattle.plugd.specs.declared.statement.Executed.TheVariants as executed
-use Rattle.plugd.specs.Asked.{engine_name, table_name, table_schema, row_of, refused_unless, full_unless_room, insert_refusal, refusal_of, after_command, create_refusal, table_refusal}
+use Rattle.plugd.specs.Asked.{is_made, is_installed, engine_name, table_name, table_schema, row_of, refused_unless, full_unless_room, insert_refusal, refusal_of, after_command, create_refusal, table_refusal}
+use Rattle.plugd.specs.Noting.{HasCatalog}
 use Rattle.plugd.specs.Play.{Makes}
 use Rattle.plugd.specs.Serve.{session, Core, IsIdle}
-use Rattle.plugd.specs.Way.{Past, IsOnWay, CanLog, IsGranted, IsExecuted, Executes, EndsAt}
+use Rattle.plugd.specs.Way.{Past, IsOnWay, IsBegun, CanLog, IsGranted, IsExecuted, Executes, EndsAt}
 use Rattle.plugd.proofs.StepLemmas.{by_err}
 use Rattle.plugd.proofs.WayLemmas.{ends_now}
 use Rattle.plugd.proofs.AskedLemmas.{granted_own, asked_few, asked_suits}
@@ -34,11 +37,11 @@ use Rattle.plugd.proofs.NotedLemmas.{idle_live}
 
 -- what holds of each run with a statement on its way
 abbrev pub EachWay : Core → (Past → Type 0) → Type 0
-EachWay core P = (past : Past) → IsOnWay past core.engine.state past.state.given core → P past
+EachWay core P = (past : Past) → IsBegun past core → P past
 
 -- a refusal, by which nothing was done
 abbrev pub RefusesBy : Command → Core → Core → Refusal → Past → Type 0
-RefusesBy asks old new refusal past = (refusal_of asks past.state.catalog ≡ Some refusal) × IsOnWay past old.engine.state past.state.given new × (new.engine.state ≡ old.engine.state)
+RefusesBy asks old new refusal past = (refusal_of asks past.state.catalog ≡ Some refusal) × IsOnWay past old.engine.state past.state.given new × (new.engine.state ≡ old.engine.state) × HasCatalog new.server.dictionary past.state.catalog
 
 -- an execution, which makes these changes
 abbrev pub ExecutesBy : Command → Core → Core → List Change → Past → Type 0
@@ -59,44 +62,67 @@ granted_now past asks changes makes granted fit = record {
 
 pub executes_refused : (asks : Command) (old new : Core) (refusal : Refusal) → EachWay old (RefusesBy asks old new refusal) → Executes asks old new (Ok (executed.Refused refusal))
 executes_refused asks old new refusal each = record {
-  changed = λ past way changes answer. cc;
-  refused = λ past way r answer. let same : refusal ≡ r = cc in subst (λ (x : Refusal). RefusesBy asks old new x past) same (each past way);
-  halted = λ past way cause answer. cc;
-  err = λ past way. tt;
+  changed = λ past begun changes answer. cc;
+  refused = λ past begun r answer. let same : refusal ≡ r = cc in subst (λ (x : Refusal). RefusesBy asks old new x past) same (each past begun);
+  halted = λ past begun cause answer. cc;
+  err = λ past begun. tt;
 }
 
 pub executes_changed : (asks : Command) (old new : Core) (changes : List Change) → EachWay old (ExecutesBy asks old new changes) → Executes asks old new (Ok (executed.Changed changes))
 executes_changed asks old new changes each = record {
-  changed = λ past way made answer. let same : changes ≡ made = cc in subst (λ (l : List Change). ExecutesBy asks old new l past) same (each past way);
-  refused = λ past way refusal answer. cc;
-  halted = λ past way cause answer. cc;
-  err = λ past way. tt;
+  changed = λ past begun made answer. let same : changes ≡ made = cc in subst (λ (l : List Change). ExecutesBy asks old new l past) same (each past begun);
+  refused = λ past begun refusal answer. cc;
+  halted = λ past begun cause answer. cc;
+  err = λ past begun. tt;
 }
 
 pub executes_err : (r : Result Executed AllocError) → IsErr r → (asks : Command) (old new : Core) → EachWay old (λ past. EndsAt past new) → Executes asks old new r
 executes_err r is_err asks old new each =
     by_err (λ (r : Result Executed AllocError). Executes asks old new r) (λ e. record {
-      changed = λ past way changes answer. cc;
-      refused = λ past way refusal answer. cc;
-      halted = λ past way cause answer. cc;
-      err = λ past way. each past way;
+      changed = λ past begun changes answer. cc;
+      refused = λ past begun refusal answer. cc;
+      halted = λ past begun cause answer. cc;
+      err = λ past begun. each past begun;
     }) r is_err
 
 -- nothing was begun
 pub ends_unbegun : (old : Core) → EachWay old (λ past. EndsAt past old)
-ends_unbegun old past way = ends_now past old way.ahead
+ends_unbegun old past begun = ends_now past old begun.way.ahead
+
+-- Whether the one table was made, and the one engine is installed, as the dictionary tells.
+pub record Finds (dictionary : DictionaryState) (made installed : Bool) : Type 0 where
+  pub made_is : made ≡ is_made dictionary.definitions
+  pub installed_is : installed ≡ is_installed dictionary.installed
+
+-- so it was looked up
+pub finds : (dictionary : DictionaryState) (table engine : List ℕ) (made installed : Bool) → table ≡ table_name → engine ≡ engine_name
+    → made ≡ is_some (definition_named table dictionary.definitions) → installed ≡ list_any (bytes_eq engine) dictionary.installed → Finds dictionary made installed
+finds dictionary table engine made installed name same there on = record {
+  made_is = there ∙ ap (λ (n : List ℕ). is_some (definition_named n dictionary.definitions)) name;
+  installed_is = on ∙ ap (λ (n : List ℕ). list_any (bytes_eq n) dictionary.installed) same;
+}
+
+-- the catalog has them so
+pub finds_here : (past : Past) (core : Core) (made installed : Bool) → Finds core.server.dictionary made installed → IsBegun past core
+    → (made ≡ is_made past.state.catalog.definitions) × (installed ≡ is_installed past.state.catalog.installed)
+finds_here past core made installed found begun = (found.made_is ∙ ap is_made begun.catalog.definitions, found.installed_is ∙ ap is_installed begun.catalog.installed)
+
+-- the engine that was looked up is the one
+pub engine_is : (dictionary : DictionaryState) (engine : List ℕ) (there : Bool) → engine ≡ engine_name → list_any (bytes_eq engine) dictionary.installed ≡ there → is_installed dictionary.installed ≡ there
+engine_is dictionary engine there is on = ap (λ (n : List ℕ). list_any (bytes_eq n) dictionary.installed) (sym is) ∙ on
 
 -- an INSTALL is refused
-pub install_refused : (old : Core) → old.server.seen.installed ≡ true → EachWay old (RefusesBy command.Install old old PluginInstalled)
-install_refused old there past way =
-    (ap (λ (b : Bool). cond b (Some PluginInstalled) None) (sym way.ahead.installed ∙ there), way, refl)
+pub install_refused : (old : Core) → is_installed old.server.dictionary.installed ≡ true → EachWay old (RefusesBy command.Install old old PluginInstalled)
+install_refused old there past begun =
+    (ap (λ (b : Bool). cond b (Some PluginInstalled) None) (sym (ap is_installed begun.catalog.installed) ∙ there), begun.way, refl, begun.catalog)
 
 -- an INSTALL is executed
-pub install_executed : (old : Core) (changes : List Change) → old.server.seen.installed ≡ false → changes ≡ change.Install engine_name ∷ [] → IsFitChange (change.Install engine_name)
+pub install_executed : (old : Core) (changes : List Change) → is_installed old.server.dictionary.installed ≡ false → changes ≡ change.Install engine_name ∷ [] → IsFitChange (change.Install engine_name)
     → EachWay old (ExecutesBy command.Install old old changes)
-install_executed old changes there all fit past way = record {
-  way = way;
-  granted = granted_now past command.Install changes (record { all = all; some = omega (arith, ap length all) }) (ap (λ (b : Bool). cond b (Some PluginInstalled) None) (sym way.ahead.installed ∙ there))
+install_executed old changes there all fit past begun = record {
+  way = begun.way;
+  catalog = begun.catalog;
+  granted = granted_now past command.Install changes (record { all = all; some = omega (arith, ap length all) }) (ap (λ (b : Bool). cond b (Some PluginInstalled) None) (sym (ap is_installed begun.catalog.installed) ∙ there))
       (subst AreFitChanges (sym all) (fit, tt));
   state = refl;
 }
@@ -138,30 +164,32 @@ create_goes_on false installed (Some x) rest is = cc
 create_goes_on false false None rest is = cc
 create_goes_on false true None rest is = refl
 
-pub create_refused : (old : Core) (table : List ℕ) (live : Option Schema) (r : Refusal) → table ≡ table_name → live ≡ live_schema table old.engine.state → create_refusal old.server.seen.made old.server.seen.installed live ≡ Some r
+pub create_refused : (old : Core) (made installed : Bool) (table : List ℕ) (live : Option Schema) (r : Refusal) → Finds old.server.dictionary made installed → table ≡ table_name → live ≡ live_schema table old.engine.state → create_refusal made installed live ≡ Some r
     → EachWay old (RefusesBy command.Create old old r)
-create_refused old table live r name is why past way =
+create_refused old made installed table live r found name is why past begun =
     let c = past.state.catalog in
     let o = table_named table_name c.live in
-    let same = live_is old past table live name is way.was_idle in
-    let why₂ : create_refusal c.made c.installed (schema_found o) ≡ Some r =
-    ap (λ (b : Bool). create_refusal b c.installed (schema_found o)) (sym way.ahead.made)
-    ∙ ap (λ (b : Bool). create_refusal old.server.seen.made b (schema_found o)) (sym way.ahead.installed)
-    ∙ ap (λ (l : Option Schema). create_refusal old.server.seen.made old.server.seen.installed l) (sym same) ∙ why in
-    (create_refused_is c.made c.installed o (full_unless_room (after_command command.Create c).live) r why₂, way, refl)
+    let same = live_is old past table live name is begun.way.was_idle in
+    let here = finds_here past old made installed found begun in
+    let why₂ : create_refusal (is_made c.definitions) (is_installed c.installed) (schema_found o) ≡ Some r =
+    ap (λ (b : Bool). create_refusal b (is_installed c.installed) (schema_found o)) (sym here.0)
+    ∙ ap (λ (b : Bool). create_refusal made b (schema_found o)) (sym here.1)
+    ∙ ap (λ (l : Option Schema). create_refusal made installed l) (sym same) ∙ why in
+    (create_refused_is (is_made c.definitions) (is_installed c.installed) o (full_unless_room (after_command command.Create c).live) r why₂, begun.way, refl, begun.catalog)
 
 -- what decides of a CREATE that goes to the engine
-pub create_rest : (old : Core) (table : List ℕ) (live : Option Schema) → table ≡ table_name → live ≡ live_schema table old.engine.state → create_refusal old.server.seen.made old.server.seen.installed live ≡ None
+pub create_rest : (old : Core) (made installed : Bool) (table : List ℕ) (live : Option Schema) → Finds old.server.dictionary made installed → table ≡ table_name → live ≡ live_schema table old.engine.state → create_refusal made installed live ≡ None
     → EachWay old (λ past. refusal_of command.Create past.state.catalog ≡ full_unless_room (after_command command.Create past.state.catalog).live)
-create_rest old table live name is why past way =
+create_rest old made installed table live found name is why past begun =
     let c = past.state.catalog in
     let o = table_named table_name c.live in
-    let same = live_is old past table live name is way.was_idle in
-    let why₂ : create_refusal c.made c.installed (schema_found o) ≡ None =
-    ap (λ (b : Bool). create_refusal b c.installed (schema_found o)) (sym way.ahead.made)
-    ∙ ap (λ (b : Bool). create_refusal old.server.seen.made b (schema_found o)) (sym way.ahead.installed)
-    ∙ ap (λ (l : Option Schema). create_refusal old.server.seen.made old.server.seen.installed l) (sym same) ∙ why in
-    create_goes_on c.made c.installed o (full_unless_room (after_command command.Create c).live) why₂
+    let same = live_is old past table live name is begun.way.was_idle in
+    let here = finds_here past old made installed found begun in
+    let why₂ : create_refusal (is_made c.definitions) (is_installed c.installed) (schema_found o) ≡ None =
+    ap (λ (b : Bool). create_refusal b (is_installed c.installed) (schema_found o)) (sym here.0)
+    ∙ ap (λ (b : Bool). create_refusal made b (schema_found o)) (sym here.1)
+    ∙ ap (λ (l : Option Schema). create_refusal made installed l) (sym same) ∙ why in
+    create_goes_on (is_made c.definitions) (is_installed c.installed) o (full_unless_room (after_command command.Create c).live) why₂
 
 -- and the table is not live
 pub create_free : (made installed : Bool) (live : Option Schema) → create_refusal made installed live ≡ None → live ≡ None
@@ -227,23 +255,25 @@ row_decides made installed (Some x) row after m i is = record {
     same = cc
 
 -- an INSERT is refused before its row is looked at
-pub table_refused : (old : Core) (key : ℤ) (text table : List ℕ) (live : Option Schema) (r : Refusal) → table ≡ table_name → live ≡ live_schema table old.engine.state → table_refusal old.server.seen.made old.server.seen.installed live ≡ Some r
+pub table_refused : (old : Core) (made installed : Bool) (key : ℤ) (text table : List ℕ) (live : Option Schema) (r : Refusal) → Finds old.server.dictionary made installed → table ≡ table_name → live ≡ live_schema table old.engine.state → table_refusal made installed live ≡ Some r
     → EachWay old (RefusesBy (command.Insert key text) old old r)
-table_refused old key text table live r name is why past way =
+table_refused old made installed key text table live r found name is why past begun =
     let c = past.state.catalog in
     let o = table_named table_name c.live in
-    let same = live_is old past table live name is way.was_idle in
-    let why₂ : table_refusal c.made c.installed (schema_found o) ≡ Some r =
-    ap (λ (b : Bool). table_refusal b c.installed (schema_found o)) (sym way.ahead.made)
-    ∙ ap (λ (b : Bool). table_refusal old.server.seen.made b (schema_found o)) (sym way.ahead.installed)
-    ∙ ap (λ (l : Option Schema). table_refusal old.server.seen.made old.server.seen.installed l) (sym same) ∙ why in
-    (table_refused_is c.made c.installed o (row_of key text) (after_command (command.Insert key text) c).live r why₂, way, refl)
+    let same = live_is old past table live name is begun.way.was_idle in
+    let here = finds_here past old made installed found begun in
+    let why₂ : table_refusal (is_made c.definitions) (is_installed c.installed) (schema_found o) ≡ Some r =
+    ap (λ (b : Bool). table_refusal b (is_installed c.installed) (schema_found o)) (sym here.0)
+    ∙ ap (λ (b : Bool). table_refusal made b (schema_found o)) (sym here.1)
+    ∙ ap (λ (l : Option Schema). table_refusal made installed l) (sym same) ∙ why in
+    (table_refused_is (is_made c.definitions) (is_installed c.installed) o (row_of key text) (after_command (command.Insert key text) c).live r why₂, begun.way, refl, begun.catalog)
 
 -- what decides of one whose row is looked at
-pub insert_rest : (old : Core) (key : ℤ) (text table : List ℕ) (live : Option Schema) → table ≡ table_name → live ≡ live_schema table old.engine.state → table_refusal old.server.seen.made old.server.seen.installed live ≡ None
+pub insert_rest : (old : Core) (made installed : Bool) (key : ℤ) (text table : List ℕ) (live : Option Schema) → Finds old.server.dictionary made installed → table ≡ table_name → live ≡ live_schema table old.engine.state → table_refusal made installed live ≡ None
     → EachWay old (λ past. RowDecides (table_named table_name past.state.catalog.live) (row_of key text) (after_command (command.Insert key text) past.state.catalog).live (refusal_of (command.Insert key text) past.state.catalog))
-insert_rest old key text table live name is why past way =
+insert_rest old made installed key text table live found name is why past begun =
     let c = past.state.catalog in
-    let found = table_found old.server.seen.made old.server.seen.installed live why in
-    row_decides c.made c.installed (table_named table_name c.live) (row_of key text) (after_command (command.Insert key text) c).live
-    (sym way.ahead.made ∙ found.0) (sym way.ahead.installed ∙ found.1) (sym (live_is old past table live name is way.was_idle) ∙ found.2)
+    let here = finds_here past old made installed found begun in
+    let there = table_found made installed live why in
+    row_decides (is_made c.definitions) (is_installed c.installed) (table_named table_name c.live) (row_of key text) (after_command (command.Insert key text) c).live
+    (sym here.0 ∙ there.0) (sym here.1 ∙ there.1) (sym (live_is old past table live name is begun.way.was_idle) ∙ there.2)

@@ -13,6 +13,7 @@ use Rattle.log_tables.specs.Gists.{after_prepare, after_commit}
 use Rattle.binlog_file.specs.declared.binlog.Binlog.{Binlog}
 use Rattle.binlog_file.specs.Logged.{Holds}
 use Rattle.binlog_file.specs.Binlog.{flushed_of, end_in}
+use Rattle.dictionary.specs.Dictionary.{DictionaryState}
 use Rattle.engine_api.specs.declared.fault.EngineFault.{EngineFault}
 use Rattle.engine_api.specs.States.{Kind, EngineState, xid_by, committed_state}
 use Rattle.engine_api.specs.Live.{IsUnder, is_under}
@@ -29,11 +30,12 @@ use Rattle.plugd.specs.declared.reply.HaltCause.TheVariants.{Device}
 use Rattle.plugd.specs.declared.server.Server.{Server}
 use Rattle.plugd.specs.Serve.{session}
 use Rattle.plugd.specs.LogOne.{IsDurable, EachOne}
-use Rattle.plugd.specs.Asked.{count_of}
+use Rattle.plugd.specs.Asked.{catalog_after, count_of}
+use Rattle.plugd.specs.Noting.{HasCatalog}
 use Rattle.plugd.specs.Play.{logged_size}
 use Rattle.plugd.specs.Serve.{Core, reader_of, shelf_of, Secure}
 use Rattle.plugd.specs.Spell.{with_halt, Acknowledges}
-use Rattle.plugd.specs.Way.{Past, IsAhead, IsOnWay, IsReadyToLog, IsSpelt, Finishes, PlaysTo}
+use Rattle.plugd.specs.Way.{Past, IsAhead, IsOnWay, IsReadyToLog, IsSpelt, IsNoted, Finishes, PlaysTo}
 use Rattle.plugd.proofs.AheadLemmas.{Called, GoesOn, core_of, secure_called, log_called}
 use Rattle.plugd.proofs.LogLemmas.{Logs, secure_logged, secure_acknowledged, durable_holds}
 use Rattle.plugd.proofs.LogOneLemmas.{carried_by}
@@ -46,7 +48,7 @@ use Rattle.plugd.proofs.EndLemmas.{IsDone, prepared_statement, prepared_is_state
 
 -- the server, with the log that it has now
 abbrev pub with_log : Binlog → Server → Server
-with_log log old = record { alloc = old.alloc; log = log; xids = old.xids; seen = old.seen; acks = old.acks; spelling = old.spelling; lines = old.lines; limit = old.limit; halted = old.halted }
+with_log log old = record { alloc = old.alloc; log = log; xids = old.xids; dictionary = old.dictionary; acks = old.acks; spelling = old.spelling; lines = old.lines; limit = old.limit; halted = old.halted }
 
 -- the core behind the write and the sync
 abbrev pub logged_core : Binlog → Disk → Core → Core
@@ -111,8 +113,8 @@ rose_since past core disk ahead rose = let less = ahead.stopped.secure.no_fewer 
 failed_at_it : (asks : Command) (xid : ℕ) (core : Core) (bytes : List ℕ) (e : Failed) (log : Binlog) (disk : Disk) → LogsOne core bytes (Err e) log disk
     → Finishes asks xid core (record { server = with_halt Device (with_log log core.server); engine = core.engine; disk = disk }) (Halted Device)
 failed_at_it asks xid core bytes e log disk one = record {
-  ok = λ past idle changes ready spelt room.
-      halted_at_it past asks changes xid core (logged_core log disk core) Device (prepared_statement asks ready.touches) ready.way.ahead ready.granted ready.next room refl refl refl refl refl
+  ok = λ past idle changes ready spelt noted room.
+      halted_at_it past asks changes xid core (logged_core log disk core) Device (prepared_statement asks ready.touches) ready.way.ahead ready.granted ready.next room refl refl refl refl
       (secure_one past (of_changes xid changes) core (after_prepare (share xid changes) idle.gist) log disk ready.way.ahead (ready_logs past idle asks changes xid core bytes (Err e) log disk ready spelt one))
       (rose_since past core disk ready.way.ahead (one.device.cause refl));
 }
@@ -215,12 +217,12 @@ pub finishes_halted : (asks : Command) (xid number : ℕ) (core : Core) (bytes :
     → Finishes asks xid core (core_of server kind reading after holds disk₂) reply
 finishes_halted asks xid number core bytes log disk {T = T} found after kind reading holds disk₂ server reply one number_is same turns may server_is reply_is =
     as_halted asks xid core (with_log log core.server) server (record { kind = kind; reading = reading; state = after; holds = holds }) disk₂ reply server_is reply_is (record {
-      ok = λ past idle changes ready spelt room.
+      ok = λ past idle changes ready spelt noted room.
           let count_is = one_number past idle (past.state.given ++ xid ∷ []) core bytes log disk number ready.way one number_is in
           let under = ap is_some (ready_under past idle asks changes xid core ready) in
           let rose = turns.cause.cause (ap (λ (f : EngineFault). Err f) (only_device T found (may under))) in
           let more = one.device.no_fewer in
-          halted_at_it past asks changes xid core (core_of (with_log log core.server) kind reading after holds disk₂) Device (prepared_statement asks ready.touches) ready.way.ahead ready.granted ready.next room refl refl refl refl same.kind
+          halted_at_it past asks changes xid core (core_of (with_log log core.server) kind reading after holds disk₂) Device (prepared_statement asks ready.touches) ready.way.ahead ready.granted ready.next room refl refl refl same.kind
           (secure_committed past idle asks changes xid number core bytes log disk (Err found) after kind reading holds disk₂ ready spelt one count_is same turns)
           (rose_since past core disk₂ ready.way.ahead (omega (arith, rose, more)));
     })
@@ -231,13 +233,13 @@ pub finishes_done : (asks : Command) (xid number call : ℕ) (core : Core) (byte
     → LogsOne core bytes (Ok tt) log disk → number ≡ flushed_of log
     → IsSame core.engine.kind kind core.engine.reading reading
     → Turns {T = T} core.engine.kind core.engine.reading (Ok value) (committed_state session xid number core.engine.state) core.engine.state after holds disk disk₂
-    → call ≡ disk₂.calls → Acknowledges asks number call (with_log log core.server) server → reply ≡ Done (count_of asks) number
+    → call ≡ disk₂.calls → Acknowledges number call (with_log log core.server) server → reply ≡ Done (count_of asks) number
     → Finishes asks xid core (core_of server kind reading after holds disk₂) reply
 finishes_done asks xid number call core bytes log disk {T = T} value after kind reading holds disk₂ server reply one number_is same turns call_is acks reply_is = record {
-  ok = λ past idle changes ready spelt room.
+  ok = λ past idle changes ready spelt noted room.
       let count_is = one_number past idle (past.state.given ++ xid ∷ []) core bytes log disk number ready.way one number_is in
       subst (λ (r : Reply). PlaysTo past asks r (core_of server kind reading after holds disk₂)) (sym (reply_is ∙ ap (λ (n : ℕ). Done (count_of asks) n) count_is))
-      (done_now past idle asks changes xid core (core_of server kind reading after holds disk₂) (done past idle changes ready spelt room count_is));
+      (done_now past idle asks changes xid core (core_of server kind reading after holds disk₂) (done past idle changes ready spelt noted room count_is));
 }
   where
     durable : (past : Past) (idle : EngineState) (changes : List Change) → IsReadyToLog past idle asks changes xid core → IsSpelt core changes xid → number ≡ past.state.count + 1 → IsTrue disk₂.told → IsDurable log (so_far past ++ of_changes xid changes ∷ []) disk₂
@@ -253,9 +255,9 @@ finishes_done asks xid number call core bytes log disk {T = T} value after kind 
         acks.acks ∙ ap (λ (n : ℕ). core.server.acks.items ++ (record { number = n; call = call }) ∷ []) count_is
         ∙ ap (λ (n : ℕ). core.server.acks.items ++ (record { number = past.state.count + 1; call = n }) ∷ []) call_is
 
-    done : (past : Past) (idle : EngineState) (changes : List Change) → IsReadyToLog past idle asks changes xid core → IsSpelt core changes xid → past.state.len + logged_size changes ≤ past.base.limit → number ≡ past.state.count + 1
+    done : (past : Past) (idle : EngineState) (changes : List Change) → IsReadyToLog past idle asks changes xid core → IsSpelt core changes xid → IsNoted past core changes → past.state.len + logged_size changes ≤ past.base.limit → number ≡ past.state.count + 1
         → IsDone past idle asks changes xid core (core_of server kind reading after holds disk₂)
-    done past idle changes ready spelt room count_is = record {
+    done past idle changes ready spelt noted room count_is = record {
       ready = ready;
       touches = ready.touches;
       room = room;
@@ -277,7 +279,7 @@ finishes_done asks xid number call core bytes log disk {T = T} value after kind 
       durable = λ told. subst (λ (l : Binlog). IsDurable l (so_far past ++ of_changes xid changes ∷ []) disk₂) (sym acks.log) (durable past idle changes ready spelt count_is told);
       xids = acks.xids;
       acks = ack_is past count_is;
-      seen = acks.seen;
+      noted = subst (λ (d : DictionaryState). HasCatalog d (catalog_after changes past.state.catalog)) (sym acks.dictionary) noted;
       lines = acks.lines;
       limit = acks.limit;
       halted = acks.halted ∙ ready.way.ahead.serves;

@@ -3,7 +3,6 @@ use Rattle.std.proofs.Common.{◌≡◌, ℕ, List, [], ◌∷◌, ◌++◌, map
 use Rattle.binlog_file.specs.Binlog.{flushed_of, end_in}
 use Rattle.engine_api.specs.States.{EngineState}
 use Rattle.plugd.specs.declared.ack.Ack.{Ack}
-use Rattle.plugd.specs.declared.seen.Seen.{Seen}
 use Rattle.plugd.specs.declared.server.Server.{Server}
 use Rattle.plugd.specs.declared.xids.XidSet.{XidSet}
 use Rattle.plugd.specs.Crash.{all_of, Safe}
@@ -23,7 +22,6 @@ served_by server core = record { server = server; engine = core.engine; disk = c
 -- what of a server the run sees while a statement is on its way
 pub record IsLike (old new : Server) : Type 0 where
   pub lines : new.lines ≡ old.lines
-  pub seen : new.seen ≡ old.seen
   pub halted : new.halted ≡ old.halted
   pub limit : new.limit ≡ old.limit
   pub acks : new.acks.items ≡ old.acks.items
@@ -50,8 +48,6 @@ ahead_like past core server like is = record {
     count = is.stopped.count;
     whole = is.stopped.whole;
   };
-  made = ap (λ (x : Seen). x.made) like.seen ∙ is.made;
-  installed = ap (λ (x : Seen). x.installed) like.seen ∙ is.installed;
   serves = like.halted ∙ is.serves;
   is_serving = is.is_serving;
   met = is.met;
@@ -83,15 +79,15 @@ way_like past idle given now_given core server like log knows is = record {
 
 -- the server with other xids
 abbrev pub with_xids : XidSet → Server → Server
-with_xids xids old = record { alloc = old.alloc; log = old.log; xids = xids; seen = old.seen; acks = old.acks; spelling = old.spelling; lines = old.lines; limit = old.limit; halted = old.halted }
+with_xids xids old = record { alloc = old.alloc; log = old.log; xids = xids; dictionary = old.dictionary; acks = old.acks; spelling = old.spelling; lines = old.lines; limit = old.limit; halted = old.halted }
 
 -- it is like the one before
 pub like_given : (xids : XidSet) (old : Server) → IsLike old (with_xids xids old)
-like_given xids old = record { lines = refl; seen = refl; halted = refl; limit = refl; acks = refl }
+like_given xids old = record { lines = refl; halted = refl; limit = refl; acks = refl }
 
 -- so it is behind a spelling
-pub like_spelt : (xids : XidSet) (old new : Server) → IsSameBut (with_xids xids old) new → IsLike old new
-like_spelt xids old new same = record { lines = same.lines; seen = same.seen; halted = same.halted; limit = same.limit; acks = same.acks }
+pub like_spelt : (old new : Server) → IsSameBut old new → IsLike old new
+like_spelt old new same = record { lines = same.lines; halted = same.halted; limit = same.limit; acks = same.acks }
 
 -- what the set of xids gave
 abbrev pub Gave : XidSet → XidSet → ℕ → Type 0
@@ -102,11 +98,17 @@ pub given_next : (past : Past) (idle : EngineState) (core : Core) (xids : XidSet
 given_next past idle core xids xid way gave = λ told. (gave (xids_of past.base.found ++ past.state.given) (way.rest told).knows).0
 
 -- and the statement goes on with it
-pub given_way : (past : Past) (idle : EngineState) (core : Core) (xids : XidSet) (xid : ℕ) (server : Server) → IsOnWay past idle past.state.given core → Gave core.server.xids xids xid
-    → IsSameBut (with_xids xids core.server) server → IsOnWay past idle (past.state.given ++ xid ∷ []) (served_by server core)
-given_way past idle core xids xid server way gave same =
-    way_like past idle past.state.given (past.state.given ++ xid ∷ []) core server (like_spelt xids core.server server same) same.log
+pub given_way : (past : Past) (idle : EngineState) (core : Core) (xids : XidSet) (xid : ℕ) → IsOnWay past idle past.state.given core → Gave core.server.xids xids xid
+    → IsOnWay past idle (past.state.given ++ xid ∷ []) (served_by (with_xids xids core.server) core)
+given_way past idle core xids xid way gave =
+    way_like past idle past.state.given (past.state.given ++ xid ∷ []) core (with_xids xids core.server) (like_given xids core.server) refl
     (λ told.
-    subst (λ (set : XidSet). Knows set (xids_of past.base.found ++ (past.state.given ++ xid ∷ []))) (sym same.xids)
-    (subst (Knows xids) (append_assoc (xids_of past.base.found) past.state.given (xid ∷ [])) (gave (xids_of past.base.found ++ past.state.given) (way.rest told).knows).1))
+    subst (Knows xids) (append_assoc (xids_of past.base.found) past.state.given (xid ∷ [])) (gave (xids_of past.base.found ++ past.state.given) (way.rest told).knows).1)
+    way
+
+-- it goes on behind its spelling too
+pub spelt_way : (past : Past) (idle : EngineState) (given : List ℕ) (core : Core) (server : Server) → IsSameBut core.server server → IsOnWay past idle given core → IsOnWay past idle given (served_by server core)
+spelt_way past idle given core server same way =
+    way_like past idle given given core server (like_spelt core.server server same) same.log
+    (λ told. subst (λ (set : XidSet). Knows set (xids_of past.base.found ++ given)) (sym same.xids) (way.rest told).knows)
     way

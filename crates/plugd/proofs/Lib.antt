@@ -32,7 +32,9 @@ pub mod PlayLemmas
 pub mod PrepareLemmas
 pub mod RefusedLemmas
 pub mod EngineLemmas
-pub mod SeenLemmas
+pub mod NotingLemmas
+pub mod DictionaryLemmas
+pub mod FoundLemmas
 pub mod SpellLemmas
 pub mod StepLemmas
 pub mod UndoLemmas

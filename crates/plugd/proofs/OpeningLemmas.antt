@@ -15,6 +15,7 @@ use Rattle.binlog_file.proofs.UniqueLemmas.{one_logged}
 use Rattle.log_tables.specs.declared.gist.Gist.{Gist}
 use Rattle.log_tables.specs.Tables.{part_of}
 use Rattle.log_tables.specs.Changes.{tables_after}
+use Rattle.dictionary.specs.Dictionary.{DictionaryState, Tells, changes_of}
 use Rattle.engine_api.specs.States.{EngineState}
 use Rattle.engine_api.specs.Many.{Working}
 use Rattle.engine_api.specs.Reads.{Reading, SameReading, EachReads, AreAtStart, OnlyIn, files_in}
@@ -34,7 +35,6 @@ use Rattle.volume_rules.proofs.OpenLemmas.{open_moments, start_goes, bring_momen
 use Rattle.volume_rules.proofs.SameLemmas.{read_by, same_back, recoverable_same, volume_same}
 use Rattle.plugd.specs.declared.ack.Ack.{Ack}
 use Rattle.plugd.specs.declared.found.Found.{Found}
-use Rattle.plugd.specs.declared.seen.Seen.{Seen}
 use Rattle.plugd.specs.declared.xids.XidSet.{XidSet}
 use Rattle.plugd.specs.XidSet.{Knows}
 use Rattle.plugd.specs.Xids.{xids_of}
@@ -45,6 +45,7 @@ use Rattle.plugd.specs.Found.{IsFound}
 use Rattle.plugd.specs.LogOne.{IsDurable}
 use Rattle.plugd.specs.Open.{IsBase, Begins}
 use Rattle.plugd.specs.Play.{State}
+use Rattle.plugd.proofs.DictionaryLemmas.{told_catalog}
 use Rattle.plugd.specs.Serve.{Base, Core, reader_of, shelf_of, IsJournal, IsIdle, IsAtRest, IsCatalogOf, Serving}
 use Rattle.plugd.proofs.AheadLemmas.{GoesOn}
 use Rattle.plugd.proofs.LogLemmas.{durable_holds}
@@ -216,7 +217,7 @@ opened_safe was reading state holds report start mid end none found log cut apar
 
 -- the first state of a session
 abbrev pub first_of : Server → EngineState → State
-first_of server state = record { line = 0; count = flushed_of server.log; len = end_in server.log; catalog = record { made = server.seen.made; installed = server.seen.installed; live = state.gist.tables }; given = []; asked = []; halted = None; met = None }
+first_of server state = record { line = 0; count = flushed_of server.log; len = end_in server.log; catalog = record { definitions = server.dictionary.definitions; installed = server.dictionary.installed; live = state.gist.tables }; given = []; asked = []; halted = None; met = None }
 
 -- what it begins with
 abbrev pub base_of : Disk → List Transaction → ℕ → Server → EngineState → Disk → Base
@@ -226,11 +227,16 @@ base_of start found limit server state end = record { start = start; found = fou
 pub record IsNew (limit : ℕ) (log : Binlog) (found : Found) (server : Server) : Type 0 where
   pub log_is : server.log ≡ log
   pub xids_are : server.xids ≡ found.xids
-  pub seen_is : server.seen ≡ found.seen
+  pub dictionary_is : server.dictionary ≡ found.dictionary
   pub limit_is : server.limit ≡ limit
   pub lines : server.lines ≡ 0
   pub acks : server.acks.items ≡ []
   pub halted : server.halted ≡ None
+
+-- its catalog is that of the log that was found
+catalog_first : (list : List Transaction) (server : Server) (state : EngineState) (log : Binlog) (found : Found) (limit : ℕ) → IsNew limit log found server → IsFound list found → IsCatalogOf list (first_of server state).catalog
+catalog_first list server state log found limit new f =
+    told_catalog list server.dictionary state.gist.tables (subst (λ (d : DictionaryState). Tells (changes_of list) d) (sym new.dictionary_is) f.dictionary)
 
 -- what a place of a list has
 there : {X : Type 0} (xs : List X) (i : ℕ) → i < length xs → (x : X) × (slice_get xs i ≡ Some x)
@@ -306,7 +312,7 @@ opened_serving was reading state holds report start mid end none found log cut l
     count = λ told. let flushed = (o.opened told).opens.is_log.flushed in omega (arith, ap flushed_of new.log_is, flushed, ap length (list_is told));
     whole = λ told none_met. subst (IsLogged (contents end 0)) (list_is told ∙ sym (append-nil list)) (rest_logged log (o.opened told).list (now end 0) (opened_durable was reading state holds report start mid end none found log cut journal.apart o b told).is_log);
   };
-  shows = record { line = new.lines; halted = new.halted; made = refl; installed = refl; count = λ none_halted. refl; len = λ none_halted. refl };
+  shows = record { line = new.lines; halted = new.halted; catalog = λ none_halted. record { definitions = refl; installed = refl }; count = λ none_halted. refl; len = λ none_halted. refl };
   met = λ none_halted. refl;
   idle = λ none_halted. opened_idle was reading state holds report start mid end none found log cut limit server o b new;
   rest = λ told none_halted. rest_now told;
@@ -325,7 +331,7 @@ opened_serving was reading state holds report start mid end none found log cut l
           durable = subst (λ (l : Binlog). IsDurable l (list ++ []) end) (sym new.log_is) (subst (λ (l : List Transaction). IsDurable log l end) (list_is told ∙ grown) (opened_durable was reading state holds report start mid end none found log cut journal.apart o b told));
           knows = subst (λ (set : XidSet). Knows set (xids_of list ++ [])) (sym new.xids_are) (subst (Knows found.xids) (ap xids_of (list_is told) ∙ sym (append-nil (xids_of list))) f.knows);
           asked_given = λ xid on. on;
-          catalog = subst (λ (l : List Transaction). IsCatalogOf l (first_of server state).catalog) (list_is told ∙ grown) (record { made = ap (λ (s : Seen). s.made) new.seen_is ∙ f.seen.made; installed = ap (λ (s : Seen). s.installed) new.seen_is ∙ f.seen.installed });
+          catalog = subst (λ (l : List Transaction). IsCatalogOf l (first_of server state).catalog) (list_is told ∙ grown) (catalog_first (o.opened told).list server state log found limit new f);
           at_work = record { holds = files.0; reads = subst (λ (l : List Gist). EachReads reading l (files_in was.kind.files end)) (sym (ap (λ (s : EngineState). s.kept) b.brought.idle.begun)) files.1 };
           recovered = λ could. subst (λ (l : List Transaction). IsRecovered (shelf_of was) l (alone (record { kind = was.kind; reading = reading }) state.gist)) (list_is told ∙ grown) (opened_at_log was reading state holds report start mid end none found log cut journal.apart o b told could);
         }
@@ -380,7 +386,7 @@ opened_begins was reading state holds report start mid end none found log cut li
           );
       catalog = λ told.
           let f = found_pairs start mid none found log cut o told in
-          subst (λ (l : List Transaction). IsCatalogOf l (first_of server state).catalog) (list_is told) (record { made = ap (λ (s : Seen). s.made) new.seen_is ∙ f.seen.made; installed = ap (λ (s : Seen). s.installed) new.seen_is ∙ f.seen.installed });
+          subst (λ (l : List Transaction). IsCatalogOf l (first_of server state).catalog) (list_is told) (catalog_first (o.opened told).list server state log found limit new f);
       live = λ told could.
           (tables_of (shelf_of was) (o.opened told).list (record { kind = was.kind; reading = reading }) state.gist (opened_at_log was reading state holds report start mid end none found log cut journal.apart o b told could)).tables
           ∙ ap (λ (name : List ℕ). part_of name (tables_after (o.opened told).list)) journal.name ∙ ap (λ (l : List Transaction). part_of engine_name (tables_after l)) (list_is told);

@@ -14,6 +14,7 @@ use Rattle.log_tables.specs.Changes.{EachApplies, tables_after}
 use Rattle.binlog_file.specs.declared.binlog.Binlog.{Binlog}
 use Rattle.binlog_file.specs.Logged.{IsLogged}
 use Rattle.binlog_file.specs.Binlog.{flushed_of, end_in}
+use Rattle.dictionary.specs.Dictionary.{DictionaryState}
 use Rattle.engine_api.specs.Live.{allows}
 use Rattle.engine_api.specs.States.{EngineState}
 use Rattle.engine_api.specs.Many.{IsAtWork}
@@ -27,15 +28,14 @@ use Rattle.plugd.specs.declared.command.Command.TheVariants.{Install}
 use Rattle.plugd.specs.declared.reply.Reply.{Reply}
 use Rattle.plugd.specs.declared.reply.Reply.TheVariants.{Done, Refused, Halted}
 use Rattle.plugd.specs.declared.reply.HaltCause.TheVariants.{Device}
-use Rattle.plugd.specs.declared.seen.Seen.{Seen}
 use Rattle.plugd.specs.declared.server.Server.{Server}
-use Rattle.plugd.specs.Asked.{engine_name, after_command, count_of}
+use Rattle.plugd.specs.Asked.{engine_name, after_command, catalog_after, count_of}
 use Rattle.plugd.specs.LogOne.{IsDurable}
 use Rattle.plugd.specs.Play.{State, logged, logged_size, IsNextGiven, logs, spent}
-use Rattle.plugd.specs.Seen.{seen_after}
+use Rattle.plugd.specs.Noting.{HasCatalog}
 use Rattle.plugd.specs.Serve.{Core, rules_of, reader_of, shelf_of, CouldRecover, Secure, IsIdle, IsAtRest, IsCatalogOf}
 use Rattle.plugd.specs.Spell.{with_halt, Acknowledges}
-use Rattle.plugd.specs.Way.{Past, IsAhead, IsOnWay, IsGranted, IsSpelt, PlaysTo}
+use Rattle.plugd.specs.Way.{Past, IsAhead, IsOnWay, IsGranted, IsSpelt, IsNoted, PlaysTo}
 use Rattle.plugd.specs.declared.xids.XidSet.{XidSet}
 use Rattle.plugd.specs.XidSet.{Knows}
 use Rattle.plugd.specs.Xids.{xids_of}
@@ -95,15 +95,15 @@ pub plain_failed : (past : Past) (idle : EngineState) (changes : List Change) (x
 plain_failed past idle changes xid core bytes e log disk server reply is spelt room one server_is reply_is =
     subst (λ (r : Reply). PlaysTo past Install r (record { server = server; engine = core.engine; disk = disk })) (sym reply_is)
     (subst (λ (s : Server). PlaysTo past Install (Halted Device) (record { server = s; engine = core.engine; disk = disk })) (sym server_is)
-    (halted_at_it past Install changes xid core (logged_core log disk core) Device tt is.way.ahead is.granted is.next room refl refl refl refl refl
+    (halted_at_it past Install changes xid core (logged_core log disk core) Device tt is.way.ahead is.granted is.next room refl refl refl refl
     (secure_one past (of_changes xid changes) core idle.gist log disk is.way.ahead (plain_logs past idle changes xid core bytes (Err e) log disk is spelt one))
     (rose_since past core disk is.way.ahead (one.device.cause refl))))
 
 -- the log would pass its limit with it
-pub plain_spent : (past : Past) (idle : EngineState) (changes : List Change) (xid : ℕ) (core : Core) → IsPlain past idle changes xid core → past.base.limit < past.state.len + logged_size changes → PlaysTo past Install (Refused LogSpent) core
-plain_spent past idle changes xid core is more line asks_so =
+pub plain_spent : (past : Past) (idle : EngineState) (changes : List Change) (xid : ℕ) (core : Core) → IsPlain past idle changes xid core → HasCatalog core.server.dictionary past.state.catalog → past.base.limit < past.state.len + logged_size changes → PlaysTo past Install (Refused LogSpent) core
+plain_spent past idle changes xid core is catalog more line asks_so =
     let i = is.way.was_idle in
-    refused_now past idle (past.state.given ++ xid ∷ []) core (Refused LogSpent) line is.way refl
+    refused_now past idle (past.state.given ++ xid ∷ []) core (Refused LogSpent) line is.way catalog refl
     (subst (λ (s : EngineState). IsIdle s past.state) (sym is.state) i)
     (λ x on. Contains-append_left past.state.given (xid ∷ []) x on)
     (λ told. subst (λ (g : Gist). IsAtRest past.base core g past.state (past.state.given ++ xid ∷ [])) (sym (ap (λ (s : EngineState). s.gist) is.state)) (is.way.rest told))
@@ -117,7 +117,7 @@ record IsPlainDone (past : Past) (idle : EngineState) (changes : List Change) (x
   pub durable : IsTrue core.disk.told → IsDurable core.server.log (so_far past ++ of_changes xid changes ∷ []) core.disk
   pub work : IsTrue core.disk.told → IsAtWork was.engine (now core.disk)
   pub acks : core.server.acks.items ≡ was.server.acks.items ++ (record { number = past.state.count + 1; call = core.disk.calls }) ∷ []
-  pub seen : core.server.seen ≡ seen_after Install was.server.seen
+  pub noted : IsNoted past core changes
   pub xids : core.server.xids ≡ was.server.xids
   pub lines : core.server.lines ≡ was.server.lines
   pub limit : core.server.limit ≡ was.server.limit
@@ -148,8 +148,7 @@ plain_now past idle changes xid was server disk d line asks_so = record {
   shows = record {
     line = d.lines ∙ ahead.counted;
     halted = d.halted ∙ ahead.serves;
-    made = ap (λ (x : Seen). x.made) d.seen ∙ ahead.made;
-    installed = ap (λ (x : Seen). x.installed) d.seen;
+    catalog = λ none. subst (λ (cs : List Change). HasCatalog server.dictionary (catalog_after cs past.state.catalog)) d.plain.granted.makes.all d.noted;
     count = λ none. d.count;
     len = λ none. d.len;
   };
@@ -207,10 +206,10 @@ plain_now past idle changes xid was server disk d line asks_so = record {
 
 -- it is acknowledged
 pub plain_done : (past : Past) (idle : EngineState) (changes : List Change) (xid number call : ℕ) (core : Core) (bytes : List ℕ) (log : Binlog) (disk : Disk) (server : Server) (reply : Reply)
-    → IsPlain past idle changes xid core → IsSpelt core changes xid → past.state.len + logged_size changes ≤ past.base.limit → LogsOne core bytes (Ok tt) log disk → number ≡ flushed_of log
-    → call ≡ disk.calls → Acknowledges Install number call (with_log log core.server) server → reply ≡ Done (count_of Install) number
+    → IsPlain past idle changes xid core → IsSpelt core changes xid → IsNoted past core changes → past.state.len + logged_size changes ≤ past.base.limit → LogsOne core bytes (Ok tt) log disk → number ≡ flushed_of log
+    → call ≡ disk.calls → Acknowledges number call (with_log log core.server) server → reply ≡ Done (count_of Install) number
     → PlaysTo past Install reply (record { server = server; engine = core.engine; disk = disk })
-plain_done past idle changes xid number call core bytes log disk server reply is spelt room one number_is call_is acks reply_is =
+plain_done past idle changes xid number call core bytes log disk server reply is spelt noted room one number_is call_is acks reply_is =
     subst (λ (r : Reply). PlaysTo past Install r (record { server = server; engine = core.engine; disk = disk })) (sym (reply_is ∙ ap (λ (n : ℕ). Done (count_of Install) n) count_is))
     (plain_now past idle changes xid core server disk (record {
       plain = is;
@@ -229,7 +228,7 @@ plain_done past idle changes xid number call core bytes log disk server reply is
           let same = sym (logged_files past core (of_changes xid changes) idle.gist disk was_logged told₁) in
           record { holds = subst core.engine.holds same w.holds; reads = subst (EachReads core.engine.reading core.engine.state.kept) same w.reads };
       acks = ack_is;
-      seen = acks.seen;
+      noted = subst (λ (d : DictionaryState). HasCatalog d (catalog_after changes past.state.catalog)) (sym acks.dictionary) noted;
       xids = acks.xids;
       lines = acks.lines;
       limit = acks.limit;

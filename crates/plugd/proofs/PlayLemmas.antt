@@ -36,32 +36,32 @@ commits_as a b changes old new result is commits = subst (λ (s : Command). Comm
 -- it comes to this reply
 pub plays_ok : (asks : Command) (old new : Core) (reply : Reply) → EachWay old (λ past. PlaysTo past asks reply new) → PlaysOne asks old new (Ok reply)
 plays_ok asks old new reply each = record {
-  ok = λ past way r answer. let same : reply ≡ r = cc in subst (λ (x : Reply). PlaysTo past asks x new) same (each past way);
-  err = λ past way. tt;
+  ok = λ past begun r answer. let same : reply ≡ r = cc in subst (λ (x : Reply). PlaysTo past asks x new) same (each past begun);
+  err = λ past begun. tt;
 }
 
 -- it comes to none
 pub plays_err : (r : Result Reply AllocError) → IsErr r → (asks : Command) (old new : Core) → EachWay old (λ past. EndsAt past new) → PlaysOne asks old new r
 plays_err r is_err asks old new each =
-    by_err (λ (r : Result Reply AllocError). PlaysOne asks old new r) (λ e. record { ok = λ past way reply answer. cc; err = λ past way. each past way }) r is_err
+    by_err (λ (r : Result Reply AllocError). PlaysOne asks old new r) (λ e. record { ok = λ past begun reply answer. cc; err = λ past begun. each past begun }) r is_err
 
 -- it is refused, and nothing was done
 pub plays_refused : (asks : Command) (old new : Core) (refusal : Refusal) → IsStatement asks → Executes asks old new (Ok (executed.Refused refusal)) → PlaysOne asks old new (Ok (Refused refusal))
-plays_refused asks old new refusal statement executes = plays_ok asks old new (Refused refusal) (λ past way line asks_so.
-    let by = executes.refused past way refusal refl in
-    let i = way.was_idle in
-    refused_now past old.engine.state past.state.given new (Refused refusal) line by.1 refl
+plays_refused asks old new refusal statement executes = plays_ok asks old new (Refused refusal) (λ past begun line asks_so.
+    let by = executes.refused past begun refusal refl in
+    let i = begun.way.was_idle in
+    refused_now past old.engine.state past.state.given new (Refused refusal) line by.1 by.3 refl
     (subst (λ (s : EngineState). IsIdle s past.state) (sym by.2) i) (λ x on. on)
     (λ told. subst (λ (s : EngineState). IsAtRest past.base new s.gist past.state past.state.given) (sym by.2) (by.1.rest told))
-    (refused asks (record { asks_so = asks_so; statement = statement; serves = way.ahead.is_serving }) refusal by.0 refl refl))
+    (refused asks (record { asks_so = asks_so; statement = statement; serves = begun.way.ahead.is_serving }) refusal by.0 refl refl))
 
 -- a call of the engine halts the run
 pub plays_halted : (asks : Command) (old new : Core) (cause : HaltCause) (server : Server) (reply : Reply) → IsStatement asks → Executes asks old new (Ok (executed.Halted cause))
     → server ≡ with_halt cause new.server → reply ≡ Halted cause → PlaysOne asks old (served_by server new) (Ok reply)
-plays_halted asks old new cause server reply statement executes server_is reply_is = plays_ok asks old (served_by server new) reply (λ past way.
+plays_halted asks old new cause server reply statement executes server_is reply_is = plays_ok asks old (served_by server new) reply (λ past begun.
     subst (λ (r : Reply). PlaysTo past asks r (served_by server new)) (sym reply_is)
     (subst (λ (s : Server). PlaysTo past asks (Halted cause) (served_by s new)) (sym server_is)
-    (halted_now past new cause asks statement (executes.halted past way cause refl))))
+    (halted_now past new cause asks statement (executes.halted past begun cause refl))))
 
 -- it was executed, and can be taken to its reply
 pub some_executed : (asks : Command) (old new : Core) (changes : List Change) → Executes asks old new (Ok (executed.Changed changes)) → SomeOnWay old → SomeExecuted asks changes new
@@ -70,8 +70,8 @@ some_executed asks old new changes executes some = (some.0, old.engine.state, ex
 -- so it is
 pub plays_committed : (asks : Command) (old mid new : Core) (changes : List Change) (r : Result Reply AllocError) → Executes asks old mid (Ok (executed.Changed changes)) → Commits asks changes mid new r → PlaysOne asks old new r
 plays_committed asks old mid new changes r executes commits = record {
-  ok = λ past way reply answer. commits.ok past old.engine.state (executes.changed past way changes refl) reply answer;
-  err = λ past way. commits.err past old.engine.state (executes.changed past way changes refl);
+  ok = λ past begun reply answer. commits.ok past old.engine.state (executes.changed past begun changes refl) reply answer;
+  err = λ past begun. commits.err past old.engine.state (executes.changed past begun changes refl);
 }
 
 -- a statement that is no INSTALL is prepared in the engine

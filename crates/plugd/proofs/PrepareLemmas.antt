@@ -96,6 +96,7 @@ prepares_full xid core {T = T} found code after kind reading holds disk same tur
     executed = record {
       way = turned_way past idle (past.state.given ++ xid ∷ []) core {T = T} (Err found) (prepared_state session xid core.engine.state) after kind reading holds disk idle.gist (after_prepare (share xid changes) idle.gist)
           (prepare_turned past idle asks changes xid core (Err found) after kind reading holds disk is same turns) (subst (λ (f : EngineFault). EngineGoesOn {T = T} (Err f)) (sym is_code) tt);
+      catalog = is.executed.catalog;
       granted = is.executed.granted;
       state = turns.refused (subst (λ (f : EngineFault). IsRefused {T = T} (Err f)) (sym is_code) tt) ∙ is.executed.state;
     };

@@ -3,7 +3,7 @@ use Rattle.std.proofs.Common.{◌≡◌, inl, inr, ⊎_elim, ℕ, List, [], ◌�
 use Rattle.std.specs.Prelude.{Contains, IsErrOf}
 use Rattle.disk_model.specs.File.{File}
 use Rattle.disk_model.specs.Disk.{Disk, now, contents, Keeps, Only, HasCause}
-use Rattle.disk_model.proofs.Moments.{both, weaker}
+use Rattle.disk_model.proofs.Moments.{started, both, weaker}
 use Rattle.row_format.specs.declared.change.Transaction.{Transaction}
 use Rattle.binlog_file.specs.declared.binlog.Binlog.{Binlog}
 use Rattle.binlog_file.specs.declared.fault.BinlogFault.{BinlogFault}
@@ -83,6 +83,15 @@ log_refused was start end fault apart cause none run = record {
         let whole = could (now start 0).bytes (contents_of was start ∷ []) (inl refl) (may_contents was start, tt) in
         absurd (not_no_log (contents start 0) whole.0 whole.1.logged ((is_none file refl).1 told))
     outside log.Memory told could is_none = tt
+
+not_device : (r : Result Unit BinlogFault) → r ≡ Err log.Memory → r ≡ Err log.Device → ⊥
+not_device r is other = cc
+
+-- No memory was left before anything was read.
+pub memory_refused : (was : Working) (start : Disk) → (Contains was.kind.files 0 → ⊥) → Refused was start Memory start
+memory_refused was start apart =
+    log_refused was start start {T = Unit} log.Memory apart (record { told = refl; later = omega arith; no_fewer = omega arith; cause = λ is. absurd (not_device (Err log.Memory) refl is) }) (λ file is. cc)
+    (λ told. started start (Only 0 (now start) (IsSafe (now start 0))) ((λ f none. refl), inl refl))
 
 -- The engine was not brought to the log.
 pub engine_refused : (was : Working) (state : EngineState) (start mid end : Disk) (none found : Found) (log : Binlog) (cut : ℕ) (fault : OpenFault) → (Contains was.kind.files 0 → ⊥)

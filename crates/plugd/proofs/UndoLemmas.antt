@@ -96,13 +96,13 @@ pub undoes_ok : (reason : Refusal) (core : Core) {T : Type 0} (value : T) (after
     → Turns {T = T} core.engine.kind core.engine.reading (Ok value) (rolled_back_state session core.engine.state) core.engine.state after holds core.disk disk
     → Undoes reason core (core_of core.server kind reading after holds disk) (Refused reason)
 undoes_ok reason core value after kind reading holds disk same turns = record {
-  ok = λ past idle asks changes xid touches is why line asks_so.
+  ok = λ past idle asks changes xid touches is catalog why line asks_so.
       let u = undone past idle asks changes xid core touches is in
       let way = turned_way past idle (past.state.given ++ xid ∷ []) core (Ok value) (rolled_back_state session core.engine.state) after kind reading holds disk u.gist idle.gist
       (undo_turned past idle asks changes xid core (Ok value) after kind reading holds disk u same turns) tt in
       let now_is : after ≡ begun_state idle.gist = turns.ok ∙ u.left in
       let i = u.way.was_idle in
-      refused_now past idle (past.state.given ++ xid ∷ []) (core_of core.server kind reading after holds disk) (Refused reason) line way refl
+      refused_now past idle (past.state.given ++ xid ∷ []) (core_of core.server kind reading after holds disk) (Refused reason) line way catalog refl
       (subst (λ (s : EngineState). IsIdle s past.state) (sym now_is) (record { pending = refl; kept = refl; none_prepared = i.none_prepared; live = i.live; last = i.last }))
       (λ x on. Contains-append_left past.state.given (xid ∷ []) x on)
       (λ told. subst (λ (g : Gist). IsAtRest past.base (core_of core.server kind reading after holds disk) g past.state (past.state.given ++ xid ∷ [])) (sym (ap (λ (s : EngineState). s.gist) now_is)) (way.rest told))
@@ -125,7 +125,7 @@ pub undoes_halted : (reason : Refusal) (core : Core) {T : Type 0} (found : Engin
 undoes_halted reason core {T = T} found after kind reading holds disk server reply same turns may server_is reply_is =
     subst (λ (r : Reply). Undoes reason core (core_of server kind reading after holds disk) r) (sym reply_is)
     (subst (λ (s : Server). Undoes reason core (core_of s kind reading after holds disk) (Halted Device)) (sym server_is) (record {
-      ok = λ past idle asks changes xid touches is why.
+      ok = λ past idle asks changes xid touches is catalog why.
           let u = undone past idle asks changes xid core touches is in
           let device : found ≡ fault.Device = only_device T found may in
           halted_now past (core_of core.server kind reading after holds disk) Device asks (prepared_statement asks touches)

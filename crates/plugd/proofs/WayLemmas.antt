@@ -19,6 +19,7 @@ use Rattle.plugd.specs.declared.reply.Reply.{Reply}
 use Rattle.plugd.specs.declared.reply.Reply.TheVariants.{Done, Refused, Halted, BadLine}
 use Rattle.plugd.specs.declared.reply.HaltCause.{HaltCause}
 use Rattle.plugd.specs.Crash.{all_of}
+use Rattle.plugd.specs.Noting.{HasCatalog}
 use Rattle.plugd.specs.Play.{Rules, State, Turn, Plays, numbers_of, with_given, halted_at, IsStatement, fails}
 use Rattle.plugd.specs.Serve.{Core, rules_of, shelf_of, IsCause, Secure, IsIdle, IsAtRest, Serving}
 use Rattle.plugd.specs.Spell.{with_halt}
@@ -76,8 +77,7 @@ halted_now past core cause asks statement by line asks_so = record {
   shows = record {
     line = ahead.counted;
     halted = refl;
-    made = ahead.made;
-    installed = ahead.installed;
+    catalog = λ none. absurd (no_none none);
     count = λ none. absurd (no_none none);
     len = λ none. absurd (no_none none);
   };
@@ -103,13 +103,13 @@ pub ends_now : (past : Past) (core : Core) → IsAhead past core → EndsAt past
 ends_now past core ahead = record { state = past.state; stopped = ahead.stopped; halted = ahead.serves ∙ sym ahead.is_serving }
 
 -- The line ends with a refusal, and the engine is idle again; by then these xids were given.
-pub refused_now : (past : Past) (was : EngineState) (given : List ℕ) (core : Core) (reply : Reply) (line : List ℕ) → IsOnWay past was given core → numbers_of (reply ∷ []) ≡ []
+pub refused_now : (past : Past) (was : EngineState) (given : List ℕ) (core : Core) (reply : Reply) (line : List ℕ) → IsOnWay past was given core → HasCatalog core.server.dictionary past.state.catalog → numbers_of (reply ∷ []) ≡ []
     → IsIdle core.engine.state past.state
     → ((xid : ℕ) → Contains past.state.given xid → Contains given xid)
     → (IsTrue past.base.start.told → IsAtRest past.base core core.engine.state.gist past.state given)
     → Turn (rules_of past.base) line past.state (reply ∷ []) (with_given given past.state)
     → Serving past.base (past.lines ++ line ∷ []) (past.replies ++ reply ∷ []) core
-refused_now past was given core reply line way none idle more rest turn = record {
+refused_now past was given core reply line way catalog none idle more rest turn = record {
   state = after;
   fixed = ahead.fixed;
   line = omega (arith, ahead.line, length-append past.lines (line ∷ []));
@@ -124,8 +124,7 @@ refused_now past was given core reply line way none idle more rest turn = record
   shows = record {
     line = ahead.counted;
     halted = ahead.serves ∙ sym ahead.is_serving;
-    made = ahead.made;
-    installed = ahead.installed;
+    catalog = λ none. catalog;
     count = λ none. way.count;
     len = λ none. way.len;
   };
@@ -155,8 +154,6 @@ on_way_called past was given core a b reading after holds disk way called work =
     line = ahead.line;
     counted = ahead.counted;
     stopped = stopped_called past.base past.lines past.replies past.state (past.base.found ++ past.state.asked) core a b core.server reading after holds disk refl called ahead.stopped;
-    made = ahead.made;
-    installed = ahead.installed;
     serves = ahead.serves;
     is_serving = ahead.is_serving;
     met = ahead.met;
@@ -190,8 +187,6 @@ halts_called past was given core a b reading after holds disk cause way called i
     line = ahead.line;
     counted = ahead.counted;
     stopped = stopped_called past.base past.lines past.replies past.state (past.base.found ++ past.state.asked) core a b core.server reading after holds disk refl called ahead.stopped;
-    made = ahead.made;
-    installed = ahead.installed;
     serves = ahead.serves;
     is_serving = ahead.is_serving;
     met = ahead.met;

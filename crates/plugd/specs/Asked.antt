@@ -1,5 +1,7 @@
 -- What a command asks for, and why it is refused. (This project; the refusals are those of `sql_value`.)
 use Rattle.std.specs.Prelude.{ℕ, ℤ, List, [], ◌∷◌, Option, Some, None, Bool, true, false, cond, ◌||◌, nat_le, is_some, option_to_list, codes}
+use Rattle.std.specs.Str.{bytes_eq}
+use Rattle.std.specs.List.{list_any}
 use Rattle.sql_value.specs.declared.value.Value.{Value}
 use Rattle.sql_value.specs.declared.value.Value.TheVariants.{Int, Text}
 use Rattle.sql_value.specs.declared.refusal.Refusal.{Refusal}
@@ -11,9 +13,11 @@ use Rattle.row_format.specs.declared.change.Change.{Change}
 use Rattle.row_format.specs.declared.change.Change.TheVariants as change
 use Rattle.row_format.specs.Schemas.{same_schema}
 use Rattle.row_format.specs.Rows.{row_refusal, first_of_two}
+use Rattle.log_tables.specs.declared.table.Definition.{Definition}
 use Rattle.log_tables.specs.declared.table.Table.{Table}
 use Rattle.log_tables.specs.Tables.{table_named}
-use Rattle.log_tables.specs.Changes.{after_changes}
+use Rattle.log_tables.specs.Changes.{after_changes, installed_changes}
+use Rattle.dictionary.specs.Dictionary.{definitions_of, bare_tables, definition_named}
 use Rattle.engine_api.specs.Live.{live_bytes, live_limit, schema_found, insert_into, is_taken_in}
 use Rattle.plugd.specs.declared.command.Command.{Command}
 use Rattle.plugd.specs.declared.command.Command.TheVariants.{Install, Create, Insert}
@@ -40,11 +44,28 @@ table_schema = record { columns = table_columns; key = Some 0 }
 abbrev pub row_of : ℤ → List ℕ → List Value
 row_of key text = Int key ∷ Text text ∷ []
 
--- What is there: whether the log has made the table, whether it has installed the engine, and the tables that the engine has.
+-- What is there: the definitions of the tables that the log has made, in order of creation; the engines that it has installed, in order;
+-- and the tables that the one engine has.
 pub record Catalog : Type 0 where
-  pub made : Bool
-  pub installed : Bool
+  pub definitions : List Definition
+  pub installed : List (List ℕ)
   pub live : List Table
+
+-- the one table is among these definitions
+abbrev pub is_made : List Definition → Bool
+is_made definitions = is_some (definition_named table_name definitions)
+
+-- the one engine is among these names
+abbrev pub is_installed : List (List ℕ) → Bool
+is_installed names = list_any (bytes_eq engine_name) names
+
+-- What is there after changes, one after the other. The definitions go through them as tables without rows.
+abbrev pub catalog_after : List Change → Catalog → Catalog
+catalog_after changes here = record {
+  definitions = definitions_of (after_changes changes (bare_tables here.definitions));
+  installed = installed_changes changes here.installed;
+  live = after_changes changes here.live;
+}
 
 -- the changes that a command makes, in order
 abbrev pub changes_by : Command → Catalog → List Change
@@ -56,11 +77,7 @@ changes_by _ here = []
 
 -- what is there after a command
 abbrev pub after_command : Command → Catalog → Catalog
-after_command Install here = record { made = here.made; installed = true; live = after_changes (changes_by Install here) here.live }
-after_command Create here = record { made = true; installed = here.installed; live = after_changes (changes_by Create here) here.live }
-after_command (Insert key text) here =
-    record { made = here.made; installed = here.installed; live = after_changes (changes_by (Insert key text) here) here.live }
-after_command _ here = here
+after_command asks here = catalog_after (changes_by asks here) here
 
 -- a refusal, unless so
 abbrev pub refused_unless : Bool → Refusal → Option Refusal → Option Refusal
@@ -92,13 +109,13 @@ table_refusal made installed (Some schema) =
 -- Why a command is refused, if it is. INSTALL: the engine is installed. CREATE: the table is there; else the engine is not installed; else
 -- the engine is full. INSERT: there is no table; else its engine is not installed; else as the engine says.
 abbrev pub refusal_of : Command → Catalog → Option Refusal
-refusal_of Install here = cond here.installed (Some PluginInstalled) None
+refusal_of Install here = cond (is_installed here.installed) (Some PluginInstalled) None
 refusal_of Create here =
-    cond (here.made || is_some (table_named table_name here.live)) (Some TableExists)
-    (refused_unless here.installed UnknownEngine (full_unless_room (after_command Create here).live))
+    cond (is_made here.definitions || is_some (table_named table_name here.live)) (Some TableExists)
+    (refused_unless (is_installed here.installed) UnknownEngine (full_unless_room (after_command Create here).live))
 refusal_of (Insert key text) here =
-    refused_unless here.made NoSuchTable
-    (refused_unless here.installed UnknownEngine (insert_refusal (table_named table_name here.live) (row_of key text) (after_command (Insert key text) here).live))
+    refused_unless (is_made here.definitions) NoSuchTable
+    (refused_unless (is_installed here.installed) UnknownEngine (insert_refusal (table_named table_name here.live) (row_of key text) (after_command (Insert key text) here).live))
 refusal_of _ here = None
 
 -- how many rows a command counts

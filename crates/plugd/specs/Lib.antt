@@ -6,7 +6,7 @@ pub mod Xids
 pub mod Lines
 pub mod Asked
 pub mod Changed
-pub mod Seen
+pub mod Noting
 pub mod Play
 pub mod Spell
 pub mod Crash

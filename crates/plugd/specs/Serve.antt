@@ -1,12 +1,10 @@
 -- Where a session stands after some lines, from the opening on. (This project.)
-use Rattle.std.specs.Prelude.{◌≡◌, ◌≤◌, ◌+◌, ℕ, List, [], ◌∷◌, ◌++◌, length, map, Contains, None, Some, is_some, IsTrue, true, false}
-use Rattle.std.specs.Str.{bytes_eq}
-use Rattle.std.specs.List.{list_any}
+use Rattle.std.specs.Prelude.{◌≡◌, ◌≤◌, ◌+◌, ℕ, List, [], ◌∷◌, ◌++◌, length, map, Contains, None, Some, IsTrue, true, false}
 use Rattle.fault_counts.specs.Rose.{Rose}
 use Rattle.disk_model.specs.Disk.{Disk, now, contents}
 use Rattle.row_format.specs.declared.change.Transaction.{Transaction}
-use Rattle.log_tables.specs.Tables.{table_named}
 use Rattle.log_tables.specs.Changes.{tables_after, installed_after}
+use Rattle.dictionary.specs.Dictionary.{definitions_of}
 use Rattle.binlog_file.specs.Logged.{IsLogged}
 use Rattle.binlog_file.specs.Binlog.{flushed_of, end_in}
 use Rattle.log_tables.specs.declared.gist.Gist.{Gist}
@@ -21,7 +19,8 @@ use Rattle.plugd.specs.declared.reply.HaltCause.{HaltCause}
 use Rattle.plugd.specs.declared.reply.HaltCause.TheVariants.{Device, NotAVolume}
 use Rattle.plugd.specs.declared.server.Server.{Server}
 use Rattle.plugd.specs.LogOne.{IsDurable}
-use Rattle.plugd.specs.Asked.{Catalog, engine_name, table_name}
+use Rattle.plugd.specs.Asked.{Catalog, engine_name}
+use Rattle.plugd.specs.Noting.{HasCatalog}
 use Rattle.plugd.specs.Xids.{xids_of}
 use Rattle.plugd.specs.XidSet.{Knows}
 use Rattle.plugd.specs.Crash.{StaysRecoverable, all_of, Safe}
@@ -96,15 +95,14 @@ pub record Stopped (base : Base) (lines : List (List ℕ)) (replies : List Reply
 pub record Shows (server : Server) (state : State) : Type 0 where
   pub line : server.lines ≡ state.line
   pub halted : server.halted ≡ state.halted
-  pub made : server.seen.made ≡ state.catalog.made
-  pub installed : server.seen.installed ≡ state.catalog.installed
+  pub catalog : state.halted ≡ None → HasCatalog server.dictionary state.catalog
   pub count : state.halted ≡ None → flushed_of server.log ≡ state.count
   pub len : state.halted ≡ None → end_in server.log ≡ state.len
 
 -- the catalog is that of this log
 pub record IsCatalogOf (log : List Transaction) (here : Catalog) : Type 0 where
-  pub made : here.made ≡ is_some (table_named table_name (tables_after log))
-  pub installed : here.installed ≡ list_any (bytes_eq engine_name) (installed_after log)
+  pub definitions : here.definitions ≡ definitions_of (tables_after log)
+  pub installed : here.installed ≡ installed_after log
 
 -- nothing is on its way in an engine of this state: it has what the catalog says, committed, and its images read so
 pub record IsIdle (idle : EngineState) (state : State) : Type 0 where

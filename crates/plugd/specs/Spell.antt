@@ -10,8 +10,7 @@ use Rattle.engine_api.specs.declared.fault.Code.TheVariants.{Duplicate}
 use Rattle.engine_api.specs.declared.fault.EngineFault.{EngineFault}
 use Rattle.engine_api.specs.declared.fault.EngineFault.TheVariants as fault
 use Rattle.plugd.specs.Play.{logged_size}
-use Rattle.plugd.specs.Seen.{seen_after}
-use Rattle.plugd.specs.declared.command.Command.{Command}
+use Rattle.plugd.specs.Noting.{dictionary_after}
 use Rattle.plugd.specs.declared.reply.HaltCause.{HaltCause}
 use Rattle.plugd.specs.declared.reply.HaltCause.TheVariants.{Device, NotAVolume}
 use Rattle.plugd.specs.declared.server.Server.{Server}
@@ -30,33 +29,34 @@ refusal_by _ = TableFull
 
 -- the server, halted
 abbrev pub with_halt : HaltCause → Server → Server
-with_halt cause old = record { alloc = old.alloc; log = old.log; xids = old.xids; seen = old.seen; acks = old.acks; spelling = old.spelling; lines = old.lines; limit = old.limit; halted = Some cause }
+with_halt cause old = record { alloc = old.alloc; log = old.log; xids = old.xids; dictionary = old.dictionary; acks = old.acks; spelling = old.spelling; lines = old.lines; limit = old.limit; halted = Some cause }
 
--- one acknowledgement more, and what the statement made is noted
-pub record Acknowledges (statement : Command) (number call : ℕ) (old new : Server) : Type 0 where
+-- one acknowledgement more
+pub record Acknowledges (number call : ℕ) (old new : Server) : Type 0 where
   pub acks : new.acks.items ≡ old.acks.items ++ (record { number = number; call = call }) ∷ []
-  pub seen : new.seen ≡ seen_after statement old.seen
+  pub dictionary : new.dictionary ≡ old.dictionary
   pub log : new.log ≡ old.log
   pub xids : new.xids ≡ old.xids
   pub lines : new.lines ≡ old.lines
   pub limit : new.limit ≡ old.limit
   pub halted : new.halted ≡ old.halted
 
--- only what is spelt, and the room for acknowledgements, may be another
+-- only what is spelt, the room for acknowledgements, and what the dictionary notes may be another
 pub record IsSameBut (old new : Server) : Type 0 where
   pub log : new.log ≡ old.log
   pub xids : new.xids ≡ old.xids
-  pub seen : new.seen ≡ old.seen
   pub acks : new.acks.items ≡ old.acks.items
   pub lines : new.lines ≡ old.lines
   pub limit : new.limit ≡ old.limit
   pub halted : new.halted ≡ old.halted
 
--- What is spelt is the transaction of these changes under this xid, chained to the end of the log, and there is room for one acknowledgement
--- more; or the log would pass its limit with it.
+-- What is spelt is the transaction of these changes under this xid, chained to the end of the log, there is room for one acknowledgement
+-- more, and the changes are noted; or the log would pass its limit with it, and nothing is noted.
 pub record Spells (xid : ℕ) (changes : List Change) (old new : Server) (result : Result Bool AllocError) : Type 0 where
   pub same : IsSameBut old new
   pub spelt : result ≡ Ok true → Carries new.log new.spelling.items ((record { xid = xid; changes = changes }) ∷ [])
   pub fits : result ≡ Ok true → end_in old.log + logged_size changes ≤ old.limit
   pub room : result ≡ Ok true → vec_len new.acks < vec_capacity new.acks
+  pub noted : result ≡ Ok true → new.dictionary ≡ dictionary_after changes old.dictionary
   pub spent : result ≡ Ok false → old.limit < end_in old.log + logged_size changes
+  pub unnoted : result ≡ Ok false → new.dictionary ≡ old.dictionary

@@ -22,7 +22,8 @@ use Rattle.plugd.specs.declared.statement.Prepared.{Prepared}
 use Rattle.plugd.specs.declared.statement.Prepared.TheVariants as prepared
 use Rattle.plugd.specs.Serve.{session}
 use Rattle.plugd.specs.Command.{IsCommand}
-use Rattle.plugd.specs.Asked.{Catalog, engine_name, refusal_of}
+use Rattle.plugd.specs.Asked.{Catalog, catalog_after, engine_name, refusal_of}
+use Rattle.plugd.specs.Noting.{HasCatalog}
 use Rattle.plugd.specs.Changed.{with_changes}
 use Rattle.plugd.specs.Play.{State, Makes, is_prepared_for, logged_size, IsNextGiven}
 use Rattle.plugd.specs.Serve.{Base, Core, Stopped, IsIdle, IsAtRest, IsFixed, IsJournal, IsCatalogOf, IsCause, rules_of, Serving, Halts}
@@ -40,8 +41,6 @@ pub record IsAhead (past : Past) (core : Core) : Type 0 where
   pub line : past.state.line ≡ length past.lines
   pub counted : core.server.lines ≡ past.state.line + 1
   pub stopped : Stopped past.base past.lines past.replies core past.state
-  pub made : core.server.seen.made ≡ past.state.catalog.made
-  pub installed : core.server.seen.installed ≡ past.state.catalog.installed
   pub serves : core.server.halted ≡ None
   pub is_serving : past.state.halted ≡ None
   pub met : past.state.met ≡ None
@@ -53,6 +52,11 @@ pub record IsOnWay (past : Past) (idle : EngineState) (given : List ℕ) (core :
   pub len : end_in core.server.log ≡ past.state.len
   pub was_idle : IsIdle idle past.state
   pub rest : IsTrue past.base.start.told → IsAtRest past.base core idle.gist past.state given
+
+-- A statement is on its way, and nothing of it was done.
+pub record IsBegun (past : Past) (core : Core) : Type 0 where
+  pub way : IsOnWay past core.engine.state past.state.given core
+  pub catalog : HasCatalog core.server.dictionary past.state.catalog
 
 -- the state of an engine that was idle, after these changes: an INSTALL is none of the engine's
 abbrev pub changed_if : Bool → List Change → EngineState → EngineState
@@ -83,10 +87,11 @@ pub record IsGranted (past : Past) (command : Command) (changes : List Change) :
   pub few : length changes < 2 ^ 31
   pub can : CanLog past.state.catalog command changes
 
--- the statement was executed: its changes are in the engine, and nothing else
+-- the statement was executed: its changes are in the engine, nothing else, and they are not noted
 pub record IsExecuted (past : Past) (idle : EngineState) (command : Command) (changes : List Change) (given : List ℕ) (core : Core)
     : Type 0 where
   pub way : IsOnWay past idle given core
+  pub catalog : HasCatalog core.server.dictionary past.state.catalog
   pub granted : IsGranted past command changes
   pub state : core.engine.state ≡ executed_state command changes idle
 
@@ -105,12 +110,13 @@ EndsAt past core = Halts past.base past.lines past.replies core
 
 -- a statement is executed
 pub record Executes (command : Command) (old new : Core) (result : Result Executed AllocError) : Type 0 where
-  pub changed : (past : Past) → IsOnWay past old.engine.state past.state.given old → (changes : List Change)
+  pub changed : (past : Past) → IsBegun past old → (changes : List Change)
       → result ≡ Ok (executed.Changed changes) → IsExecuted past old.engine.state command changes past.state.given new
-  pub refused : (past : Past) → IsOnWay past old.engine.state past.state.given old → (refusal : Refusal) → result ≡ Ok (executed.Refused refusal)
+  pub refused : (past : Past) → IsBegun past old → (refusal : Refusal) → result ≡ Ok (executed.Refused refusal)
       → (refusal_of command past.state.catalog ≡ Some refusal) × IsOnWay past old.engine.state past.state.given new × (new.engine.state ≡ old.engine.state)
-  pub halted : (past : Past) → IsOnWay past old.engine.state past.state.given old → (cause : HaltCause) → result ≡ Ok (executed.Halted cause) → HaltsBy past new cause
-  pub err : (past : Past) → IsOnWay past old.engine.state past.state.given old → OnErr result (EndsAt past new)
+      × HasCatalog new.server.dictionary past.state.catalog
+  pub halted : (past : Past) → IsBegun past old → (cause : HaltCause) → result ≡ Ok (executed.Halted cause) → HaltsBy past new cause
+  pub err : (past : Past) → IsBegun past old → OnErr result (EndsAt past new)
 
 -- a statement that was executed is taken to its reply
 pub record Commits (command : Command) (changes : List Change) (old new : Core) (result : Result Reply AllocError) : Type 0 where
@@ -160,25 +166,29 @@ IsToUndo past idle command changes xid core =
 -- it is rolled back, and refused; or that halts the run
 pub record Undoes (refusal : Refusal) (old new : Core) (reply : Reply) : Type 0 where
   pub ok : (past : Past) (idle : EngineState) (command : Command) (changes : List Change) (xid : ℕ) → IsTrue (is_prepared_for command)
-      → IsToUndo past idle command changes xid old → IsReason past changes refusal → PlaysTo past command reply new
+      → IsToUndo past idle command changes xid old → HasCatalog old.server.dictionary past.state.catalog → IsReason past changes refusal → PlaysTo past command reply new
 
 -- what is spelt is the transaction of these changes under this xid
 abbrev pub IsSpelt : Core → List Change → ℕ → Type 0
 IsSpelt core changes xid = Carries core.server.log core.server.spelling.items ((record { xid = xid; changes = changes }) ∷ [])
 
+-- these changes are noted in the dictionary
+abbrev pub IsNoted : Past → Core → List Change → Type 0
+IsNoted past core changes = HasCatalog core.server.dictionary (catalog_after changes past.state.catalog)
+
 -- a statement that is prepared is logged, committed and acknowledged; or a fault halts the run
 pub record Finishes (command : Command) (xid : ℕ) (old new : Core) (reply : Reply) : Type 0 where
   pub ok : (past : Past) (idle : EngineState) (changes : List Change) → IsReadyToLog past idle command changes xid old → IsSpelt old changes xid
-      → past.state.len + logged_size changes ≤ past.base.limit → PlaysTo past command reply new
+      → IsNoted past old changes → past.state.len + logged_size changes ≤ past.base.limit → PlaysTo past command reply new
 
 -- a statement is played: to its reply, or to the end of memory
 pub record PlaysOne (command : Command) (old new : Core) (result : Result Reply AllocError) : Type 0 where
-  pub ok : (past : Past) → IsOnWay past old.engine.state past.state.given old → (reply : Reply) → result ≡ Ok reply → PlaysTo past command reply new
-  pub err : (past : Past) → IsOnWay past old.engine.state past.state.given old → OnErr result (EndsAt past new)
+  pub ok : (past : Past) → IsBegun past old → (reply : Reply) → result ≡ Ok reply → PlaysTo past command reply new
+  pub err : (past : Past) → IsBegun past old → OnErr result (EndsAt past new)
 
 -- some statement is on its way, and the engine is idle
 abbrev pub SomeOnWay : Core → Type 0
-SomeOnWay core = (past : Past) × IsOnWay past core.engine.state past.state.given core
+SomeOnWay core = (past : Past) × IsBegun past core
 
 -- some statement was executed, and makes these changes
 abbrev pub SomeExecuted : Command → List Change → Core → Type 0
@@ -194,8 +204,8 @@ abbrev pub SomeToUndo : Core → Type 0
 SomeToUndo core =
     (past : Past) × (idle : EngineState) × (command : Command) × (changes : List Change) × (xid : ℕ) × IsToUndo past idle command changes xid core
 
--- this statement is prepared under this xid, is spelt, and fits into the log, and there is room for its acknowledgement
+-- this statement is prepared under this xid, is spelt and noted, and fits into the log, and there is room for its acknowledgement
 abbrev pub SomeReady : Command → ℕ → Core → Type 0
 SomeReady command xid core =
     (past : Past) × (idle : EngineState) × (changes : List Change) × IsReadyToLog past idle command changes xid core × IsSpelt core changes xid
-    × (past.state.len + logged_size changes ≤ past.base.limit) × (vec_len core.server.acks < vec_capacity core.server.acks)
+    × IsNoted past core changes × (past.state.len + logged_size changes ≤ past.base.limit) × (vec_len core.server.acks < vec_capacity core.server.acks)

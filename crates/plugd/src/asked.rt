@@ -78,23 +78,22 @@ fn one_change(alloc: Global, change: Change) -> Result<Changes, AllocError>
     Ok(Changes::new(changes))
 }
 
-/// The changes of an INSTALL of the engine. `AllocError` for want of memory.
-pub(crate) fn install_changes(alloc: Global) -> Result<Changes, AllocError>
-    ensures { IfOk result (λ changes. changes ≡ change.Install engine_name ∷ []) }
+/// The changes of an INSTALL of this engine. `AllocError` for want of memory.
+pub(crate) fn install_changes(alloc: Global, engine: Name) -> Result<Changes, AllocError>
+    ensures { IfOk result (λ changes. changes ≡ change.Install engine ∷ []) }
 {
-    let name = engine_name(alloc)?;
-    one_change(alloc, Change::Install { name })
+    one_change(alloc, Change::Install { name: engine })
 }
 
-/// The changes of a CREATE of this table with this schema. `AllocError` for want of memory.
+/// The changes of a CREATE of this table in this engine, with this schema. `AllocError` for want of memory.
 pub(crate) fn create_changes(
     alloc: Global,
     table: Name,
+    engine: Name,
     schema: Schema,
 ) -> Result<Changes, AllocError>
-    ensures { IfOk result (λ changes. changes ≡ change.Create table engine_name schema ∷ []) }
+    ensures { IfOk result (λ changes. changes ≡ change.Create table engine schema ∷ []) }
 {
-    let engine = engine_name(alloc)?;
     one_change(
         alloc,
         Change::Create {

@@ -1,12 +1,14 @@
-//! What the log tells at an opening: its xids, their numbers, and what it has made and installed.
+//! What the log tells at an opening: its xids, their numbers, and its dictionary.
 //!
-//! One transaction is in memory at a time. What is kept of each is its xid and its number (16 bytes), until the engine is recovered.
-ghost use Rattle.std.specs.Prelude.{[]};
+//! One transaction is in memory at a time. What is kept of each is its xid and its number (16 bytes), until the engine is recovered. The
+//! dictionary has one definition for each table that there is.
+ghost use Rattle.std.specs.Prelude.{[], IfOk};
 ghost use Rattle.plugd.specs.Found.{IsFound};
 
-use crate::seen::Seen;
+use crate::noting::note;
 use crate::xids::XidSet;
 use binlog_file::Visit;
+use dictionary::Dictionary;
 use row_format::Transaction;
 use std::alloc::{AllocError, Global};
 
@@ -15,19 +17,20 @@ use std::alloc::{AllocError, Global};
 pub(crate) struct Found {
     pub(crate) xids: XidSet,
     pub(crate) pairs: Vec<(u64, u64)>,
-    pub(crate) seen: Seen,
+    pub(crate) dictionary: Dictionary,
 }
 
 impl Found {
-    /// Nothing was found.
-    pub(crate) fn none(alloc: Global) -> Found
-        ensures { IsFound [] result }
+    /// Nothing was found. `AllocError` for want of memory.
+    pub(crate) fn none(alloc: Global) -> Result<Found, AllocError>
+        ensures { IfOk result (IsFound []) }
     {
-        Found {
+        let dictionary = Dictionary::new(alloc)?;
+        Ok(Found {
             xids: XidSet::new(alloc),
             pairs: Vec::new(alloc),
-            seen: Seen::none(),
-        }
+            dictionary,
+        })
     }
 }
 
@@ -38,7 +41,6 @@ impl Visit for Found {
         self.xids.add(txn.xid)?;
         let number = self.pairs.len() as u64 + 1;
         self.pairs.push((txn.xid, number))?;
-        self.seen.fold_all(txn.changes.as_slice());
-        Ok(())
+        note(&mut self.dictionary, txn.changes.as_slice())
     }
 }

@@ -139,7 +139,11 @@ impl Kernel {
     {
         let mut storage = volume.storage;
         let mut engine = engine;
-        let mut found = Found::none(alloc);
+        let Ok(mut found) = Found::none(alloc) else {
+            let fault = OpenFault::Memory;
+            let volume = Volume { storage };
+            return Err(Unopened { fault, volume });
+        };
         let opened = match open_log(alloc, &mut storage, &mut found) {
             Ok(opened) => opened,
             Err(fault) => {
@@ -153,7 +157,7 @@ impl Kernel {
             Ok(_) => Ok(Kernel {
                 storage,
                 engine,
-                server: Server::new(alloc, opened.log, found.xids, found.seen, limit),
+                server: Server::new(alloc, opened.log, found.xids, found.dictionary, limit),
             }),
             Err(fault) => {
                 let volume = Volume { storage };

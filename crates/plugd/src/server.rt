@@ -6,8 +6,14 @@
 //! A statement is executed in the engine, prepared there, written to the log, made durable there, committed in the engine and
 //! acknowledged, in this order.
 //!
-//! Invariant: while it serves, every transaction of the log is durable, and the engine is at the log (`IsAtRest`).
-ghost use Rattle.std.specs.Prelude.{◌≡◌, ◌≤◌, ◌<◌, ◌^◌, [], None, length, vec_len, vec_capacity};
+//! Its changes are noted in the dictionary as it is spelt, while it may still fail for want of memory.
+//!
+//! Invariant: while it serves, every transaction of the log is durable, the engine is at the log (`IsAtRest`), and so is the dictionary
+//! (`HasCatalog`).
+ghost use Rattle.std.specs.Prelude.{◌≡◌, ◌≤◌, ◌<◌, ◌^◌, [], None, is_some, length, vec_len, vec_capacity};
+ghost use Rattle.std.specs.Str.{bytes_eq};
+ghost use Rattle.std.specs.List.{list_any};
+ghost use Rattle.dictionary.specs.Dictionary.{definition_named};
 ghost use Rattle.row_format.specs.Changes.{AreFitChanges};
 ghost use Rattle.plugd.specs.Asked.{count_of};
 ghost use Rattle.plugd.specs.Spell.{Spells, Acknowledges, with_halt};
@@ -15,24 +21,25 @@ ghost use Rattle.plugd.specs.declared.reply.Reply.TheVariants.{Done, Halted};
 
 use crate::ack::Ack;
 use crate::command::Command;
+use crate::noting::note;
 use crate::reply::{HaltCause, Reply};
-use crate::seen::Seen;
 use crate::xids::XidSet;
 use binlog_events::{put_transaction, transaction_len};
 use binlog_file::Binlog;
-use row_format::{Changes, Transaction};
+use dictionary::Dictionary;
+use row_format::{Changes, Name, Transaction};
 use std::alloc::{AllocError, Global};
 
 /// The session by which the engine knows what this server does.
 pub(crate) const SESSION: u32 = 1;
 
-/// The log, what was acknowledged, and how many lines were played.
+/// The log, its dictionary, what was acknowledged, and how many lines were played.
 #[derive(Drop)]
 pub(crate) struct Server {
     pub(crate) alloc: Global,
     pub(crate) log: Binlog,
     pub(crate) xids: XidSet,
-    pub(crate) seen: Seen,
+    pub(crate) dictionary: Dictionary,
     pub(crate) acks: Vec<Ack>,
     // The transaction that is being logged, as it is spelt.
     pub(crate) spelling: Vec<u8>,
@@ -43,10 +50,16 @@ pub(crate) struct Server {
 
 impl Server {
     /// A server over a log that an opening found, which may get so many bytes long.
-    pub(crate) fn new(alloc: Global, log: Binlog, xids: XidSet, seen: Seen, limit: u32) -> Server
+    pub(crate) fn new(
+        alloc: Global,
+        log: Binlog,
+        xids: XidSet,
+        dictionary: Dictionary,
+        limit: u32,
+    ) -> Server
         ensures log { result.log ≡ log }
         ensures xids { result.xids ≡ xids }
-        ensures seen { result.seen ≡ seen }
+        ensures dictionary { result.dictionary ≡ dictionary }
         ensures limit { result.limit ≡ limit }
         ensures lines { result.lines ≡ 0 }
         ensures acks { result.acks.items ≡ [] }
@@ -56,7 +69,7 @@ impl Server {
             alloc,
             log,
             xids,
-            seen,
+            dictionary,
             acks: Vec::new(alloc),
             spelling: Vec::new(alloc),
             lines: 0,
@@ -65,7 +78,25 @@ impl Server {
         }
     }
 
-    // Spells the transaction of these changes, and makes room for its acknowledgement; or tells that the log would pass its limit with it.
+    // Whether the log has made a table of this name.
+    pub(crate) fn has_table(&self, table: &Name) -> bool
+        ensures { result ≡ is_some (definition_named table.now self.now.dictionary.definitions) }
+    {
+        self.dictionary.find(table).is_some()
+    }
+
+    // Whether the log has installed the engine.
+    pub(crate) fn has_engine(&self, engine: &Name) -> bool
+        ensures { result ≡ list_any (bytes_eq engine.now) self.now.dictionary.installed }
+    {
+        self.dictionary
+            .installed()
+            .iter()
+            .any(|it| engine.is_same(it))
+    }
+
+    // Spells the transaction of these changes, makes room for its acknowledgement, and notes them; or tells that the log would pass its
+    // limit with it.
     pub(crate) fn spell(&mut self, xid: u64, changes: Changes) -> Result<bool, AllocError>
         requires some { 0 < length changes }
         requires few { length changes < 2 ^ 31 }
@@ -82,17 +113,17 @@ impl Server {
         let prev = self.log.last_crc();
         put_transaction(&txn, at, prev, &mut self.spelling)?;
         self.acks.reserve(1)?;
+        note(&mut self.dictionary, txn.changes.as_slice())?;
         Ok(true)
     }
 
     // Acknowledges a statement, at this device call, as this transaction of the log.
     pub(crate) fn acknowledge(&mut self, statement: &Command, number: u64, call: u64) -> Reply
         requires room { vec_len self.old.acks < vec_capacity self.old.acks }
-        ensures acknowledges { Acknowledges statement.now number call self.old self.new }
+        ensures acknowledges { Acknowledges number call self.old self.new }
         ensures reply { result ≡ Done (count_of statement.now) number }
     {
         let _ = self.acks.push(Ack { number, call });
-        self.seen.note(statement);
         Reply::Done {
             count: rows_of(statement),
             number,

@@ -19,13 +19,12 @@ ghost use Rattle.plugd.specs.Spell.{cause_by, refusal_by};
 ghost use Rattle.plugd.specs.Way.{SomeOnWay, SomeExecuted, SomeToPrepare, SomeToUndo, SomeReady, PlaysOne, Executes, Commits, Prepares, Undoes, Finishes};
 
 use crate::asked::{
-    create_changes, insert_changes, install_changes, row_of, table_name, table_schema,
+    create_changes, engine_name, insert_changes, install_changes, row_of, table_name, table_schema,
 };
 use crate::calls::{calls_of, commit, create, log, prepare, roll_back, schema_of, write_row};
 use crate::command::Command;
 use crate::kernel::{AtWork, Kernel};
 use crate::reply::{HaltCause, Reply};
-use crate::seen::Seen;
 use engine_api::{Code, EngineFault};
 use row_format::{Changes, Schema, Text, check_row};
 use sql_value::Refusal;
@@ -64,29 +63,34 @@ fn cause_of(fault: EngineFault) -> Result<HaltCause, AllocError>
     }
 }
 
-// Why a CREATE is refused before the engine is asked, if it is.
-fn create_refusal(seen: Seen, live: Option<&Schema>) -> Option<Refusal>
-    ensures { result ≡ create_refusal seen.made seen.installed (option_copied live.entry) }
+// Why a CREATE is refused before the engine is asked, if it is: by whether its table was made, and its engine is installed.
+fn create_refusal(made: bool, installed: bool, live: Option<&Schema>) -> Option<Refusal>
+    ensures { result ≡ create_refusal made installed (option_copied live.entry) }
 {
-    if seen.made || live.is_some() {
+    if made || live.is_some() {
         return Some(Refusal::TableExists);
     }
-    if seen.installed {
+    if installed {
         None
     } else {
         Some(Refusal::UnknownEngine)
     }
 }
 
-// Why an INSERT is refused whatever its row is, if it is; the one table has this schema.
-fn table_refusal(seen: Seen, live: Option<&Schema>, schema: &Schema) -> Option<Refusal>
+// Why an INSERT is refused whatever its row is, if it is, likewise; the one table has this schema.
+fn table_refusal(
+    made: bool,
+    installed: bool,
+    live: Option<&Schema>,
+    schema: &Schema,
+) -> Option<Refusal>
     requires { schema.now ≡ table_schema }
-    ensures { result ≡ table_refusal seen.made seen.installed (option_copied live.entry) }
+    ensures { result ≡ table_refusal made installed (option_copied live.entry) }
 {
-    if !seen.made {
+    if !made {
         return Some(Refusal::NoSuchTable);
     }
-    if !seen.installed {
+    if !installed {
         return Some(Refusal::UnknownEngine);
     }
     match live {
@@ -166,12 +170,14 @@ impl Kernel {
         ensures executes { Executes Install (⟦<Kernel as AtWork>⟧.core_of self.old)
             (⟦<Kernel as AtWork>⟧.core_of self.new) result }
     {
-        if self.server.seen.installed {
+        let alloc = self.server.alloc;
+        let engine = engine_name(alloc)?;
+        if self.server.has_engine(&engine) {
             return Ok(Executed::Refused {
                 refusal: Refusal::PluginInstalled,
             });
         }
-        let changes = install_changes(self.server.alloc)?;
+        let changes = install_changes(alloc, engine)?;
         Ok(Executed::Changed { changes })
     }
 
@@ -184,13 +190,17 @@ impl Kernel {
     {
         let alloc = self.server.alloc;
         let table = table_name(alloc)?;
-        if let Some(refusal) = create_refusal(self.server.seen, schema_of(&self.engine, &table)) {
+        let engine = engine_name(alloc)?;
+        let made = self.server.has_table(&table);
+        let installed = self.server.has_engine(&engine);
+        let live = schema_of(&self.engine, &table);
+        if let Some(refusal) = create_refusal(made, installed, live) {
             return Ok(Executed::Refused { refusal });
         }
         let schema = table_schema(alloc)?;
         match create(&mut self.engine, &table, &schema) {
             Ok(()) => {
-                let changes = create_changes(alloc, table, schema)?;
+                let changes = create_changes(alloc, table, engine, schema)?;
                 Ok(Executed::Changed { changes })
             }
             Err(EngineFault::Code(_)) => Ok(Executed::Refused {
@@ -209,9 +219,12 @@ impl Kernel {
     {
         let alloc = self.server.alloc;
         let table = table_name(alloc)?;
+        let engine = engine_name(alloc)?;
         let schema = table_schema(alloc)?;
+        let made = self.server.has_table(&table);
+        let installed = self.server.has_engine(&engine);
         let live = schema_of(&self.engine, &table);
-        if let Some(refusal) = table_refusal(self.server.seen, live, &schema) {
+        if let Some(refusal) = table_refusal(made, installed, live, &schema) {
             return Ok(Executed::Refused { refusal });
         }
         let row = row_of(alloc, key, text.copy()?)?;
@@ -242,13 +255,12 @@ impl Kernel {
             (⟦<Kernel as AtWork>⟧.core_of self.new) result }
     {
         let xid = self.server.xids.give()?;
-        let fits = self.server.spell(xid, changes)?;
         match self.prepare(xid)? {
             Prepared::Done => {}
             Prepared::Full => return Ok(self.undo(Refusal::TableFull)),
             Prepared::Halted { cause } => return Ok(self.server.halt(cause)),
         }
-        if !fits {
+        if !self.server.spell(xid, changes)? {
             return Ok(self.undo(Refusal::LogSpent));
         }
         Ok(self.finish(statement, xid))
@@ -289,7 +301,7 @@ impl Kernel {
         }
     }
 
-    // Logs what is spelt and prepared, commits it in the engine, and acknowledges it.
+    // Logs what is prepared and spelt, commits it in the engine, and acknowledges it.
     fn finish(&mut self, statement: &Command, xid: u64) -> Reply
         requires ready { SomeReady statement.now xid (⟦<Kernel as AtWork>⟧.core_of self.old) }
         ensures same { IsSame (kind self.old.engine) (kind self.new.engine)

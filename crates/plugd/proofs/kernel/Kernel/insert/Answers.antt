@@ -1,4 +1,4 @@
-use Rattle.std.proofs.Common.{rules, ◌≡◌, ◌∙◌, ℕ, ℤ, List, [], ◌∷◌, None, Err, ap, sym, refl, subst}
+use Rattle.std.proofs.Common.{rules, ◌≡◌, ◌∙◌, ℕ, ℤ, List, [], ◌∷◌, None, Some, Err, ap, sym, refl, subst}
 use Rattle.std.specs.Int.{w64}
 use Rattle.std.specs.Option.{option_copied}
 use Rattle.std.proofs.lemmas.Int.{to_z-of_z}
@@ -12,18 +12,27 @@ use Rattle.row_format.specs.Schemas.{IsSchema}
 use Rattle.plugd.specs.declared.command.Command.TheVariants.{Insert}
 use Rattle.plugd.specs.Asked.{table_name, table_schema, row_of, table_refusal}
 use Rattle.plugd.specs.Serve.{Core}
-use Rattle.plugd.proofs.ExecuteLemmas.{executes_refused, executes_changed, executes_err}
+use Rattle.plugd.proofs.ExecuteLemmas.{executes_refused, executes_changed, executes_err, finds, table_refused}
 use Rattle.plugd.proofs.EngineLemmas.{GoesIn, goes_row, row_refused, insert_executed, insert_unsaid, executes_not_written}
 use Rattle.plugd.proofs.kernel.Kernel.insert.Goals as goal
+
+pub returns-in-Some-clause-executes : goal.returns-in-Some-clause-executes
+returns-in-Some-clause-executes g c =
+    let live = option_copied c.schema_of-live.result in
+    let why : table_refusal c.has_table-made.result c.has_engine-installed.result live ≡ Some c.in-Some.refusal = search rules in
+    executes_refused (Insert c.args.key c.args.text.now) _ _ c.in-Some.refusal
+    (table_refused _ c.has_table-made.result c.has_engine-installed.result c.args.key c.args.text.now c.in_ok-table.table live c.in-Some.refusal
+    (finds c.args.self.now.server.dictionary c.in_ok-table.table c.in_ok-engine.engine _ _ c.in_ok-table.ensures c.in_ok-engine.ensures c.has_table-made.ensures c.has_engine-installed.ensures) c.in_ok-table.ensures c.schema_of-live.ensures why)
 
 pub returns-in-Err-clause-executes : goal.returns-in-Err-clause-executes
 returns-in-Err-clause-executes g c =
     let k = c.args.self.now in
     let row_is = c.in_ok-row.ensures ∙ ap (λ (z : ℤ). row_of z c.in_ok-copy.field-0) (to_z-of_z w64 c.args.key c.ranges.key) ∙ ap (row_of c.args.key) c.in_ok-copy.ensures in
     let live = option_copied c.schema_of-live.result in
-    let unrefused : table_refusal k.server.seen.made k.server.seen.installed live ≡ None = search rules in
+    let unrefused : table_refusal c.has_table-made.result c.has_engine-installed.result live ≡ None = search rules in
     executes_refused (Insert c.args.key c.args.text.now) _ _ c.in-Err.refusal
-    (row_refused _ c.args.key c.args.text.now c.in_ok-table.table c.in_ok-row.row live c.in-Err.refusal c.in_ok-table.ensures row_is c.schema_of-live.ensures unrefused
+    (row_refused _ c.has_table-made.result c.has_engine-installed.result c.args.key c.args.text.now c.in_ok-table.table c.in_ok-row.row live c.in-Err.refusal
+    (finds c.args.self.now.server.dictionary c.in_ok-table.table c.in_ok-engine.engine _ _ c.in_ok-table.ensures c.in_ok-engine.ensures c.has_table-made.ensures c.has_engine-installed.ensures) c.in_ok-table.ensures row_is c.schema_of-live.ensures unrefused
     (ap (λ (s : Schema). row_refusal s c.in_ok-row.row) (sym c.in_ok-schema.ensures.value) ∙ sym c.in-Err.ensures.value))
 
 pub write_row-requires-clause-row : goal.write_row-requires-clause-row
@@ -34,12 +43,15 @@ write_row-requires-clause-row g c =
     let old : Core = record { server = k.server; engine = record { kind = e.kind k.engine.value; reading = e.reading k.engine.value; state = e.state k.engine.value; holds = e.holds k.engine.value }; disk = d.disk k.storage.value } in
     let row_is = c.in_ok-row.ensures ∙ ap (λ (z : ℤ). row_of z c.in_ok-copy.field-0) (to_z-of_z w64 c.args.key c.ranges.key) ∙ ap (row_of c.args.key) c.in_ok-copy.ensures in
     let live = option_copied c.schema_of-live.result in
-    let unrefused : table_refusal k.server.seen.made k.server.seen.installed live ≡ None = search rules in
+    let unrefused : table_refusal c.has_table-made.result c.has_engine-installed.result live ≡ None = search rules in
     let goes : GoesIn old c.args.key c.args.text.now c.in_ok-table.table c.in_ok-row.row = record {
       name = c.in_ok-table.ensures;
       row_is = row_is;
       live = live;
       live_is = c.schema_of-live.ensures;
+      made = c.has_table-made.result;
+      installed = c.has_engine-installed.result;
+      found = (finds c.args.self.now.server.dictionary c.in_ok-table.table c.in_ok-engine.engine _ _ c.in_ok-table.ensures c.in_ok-engine.ensures c.has_table-made.ensures c.has_engine-installed.ensures);
       unrefused = unrefused;
       fits = subst (λ (s : Schema). IsRow s c.in_ok-row.row) c.in_ok-schema.ensures.value c.in_default-check_row.ensures.ok;
     } in
@@ -55,12 +67,15 @@ returns-in_ok-changes-in-Ok-clause-executes g c =
     let k = c.args.self.now in
     let row_is = c.in_ok-row.ensures ∙ ap (λ (z : ℤ). row_of z c.in_ok-copy.field-0) (to_z-of_z w64 c.args.key c.ranges.key) ∙ ap (row_of c.args.key) c.in_ok-copy.ensures in
     let live = option_copied c.schema_of-live.result in
-    let unrefused : table_refusal k.server.seen.made k.server.seen.installed live ≡ None = search rules in
+    let unrefused : table_refusal c.has_table-made.result c.has_engine-installed.result live ≡ None = search rules in
     let goes : GoesIn _ c.args.key c.args.text.now c.in_ok-table.table c.in_ok-row.row = record {
       name = c.in_ok-table.ensures;
       row_is = row_is;
       live = live;
       live_is = c.schema_of-live.ensures;
+      made = c.has_table-made.result;
+      installed = c.has_engine-installed.result;
+      found = (finds c.args.self.now.server.dictionary c.in_ok-table.table c.in_ok-engine.engine _ _ c.in_ok-table.ensures c.in_ok-engine.ensures c.has_table-made.ensures c.has_engine-installed.ensures);
       unrefused = unrefused;
       fits = subst (λ (s : Schema). IsRow s c.in_ok-row.row) c.in_ok-schema.ensures.value c.in_default-check_row.ensures.ok;
     } in
@@ -78,12 +93,15 @@ returns-in-Err-write_row-clause-executes g c =
     let k = c.args.self.now in
     let row_is = c.in_ok-row.ensures ∙ ap (λ (z : ℤ). row_of z c.in_ok-copy.field-0) (to_z-of_z w64 c.args.key c.ranges.key) ∙ ap (row_of c.args.key) c.in_ok-copy.ensures in
     let live = option_copied c.schema_of-live.result in
-    let unrefused : table_refusal k.server.seen.made k.server.seen.installed live ≡ None = search rules in
+    let unrefused : table_refusal c.has_table-made.result c.has_engine-installed.result live ≡ None = search rules in
     let goes : GoesIn _ c.args.key c.args.text.now c.in_ok-table.table c.in_ok-row.row = record {
       name = c.in_ok-table.ensures;
       row_is = row_is;
       live = live;
       live_is = c.schema_of-live.ensures;
+      made = c.has_table-made.result;
+      installed = c.has_engine-installed.result;
+      found = (finds c.args.self.now.server.dictionary c.in_ok-table.table c.in_ok-engine.engine _ _ c.in_ok-table.ensures c.in_ok-engine.ensures c.has_table-made.ensures c.has_engine-installed.ensures);
       unrefused = unrefused;
       fits = subst (λ (s : Schema). IsRow s c.in_ok-row.row) c.in_ok-schema.ensures.value c.in_default-check_row.ensures.ok;
     } in

@@ -7,8 +7,15 @@ use Rattle.xid_recovery.specs.Pairs.{ArePairsOf}
 use Rattle.xid_recovery.specs.Recovers.{IsBrought, TellsOnly}
 use Rattle.plugd.specs.Open.{Begins, Refused}
 use Rattle.plugd.proofs.OpeningLemmas.{LogOpens, opened_begins}
-use Rattle.plugd.proofs.RefusedLemmas.{log_refused, engine_refused}
+use Rattle.plugd.proofs.RefusedLemmas.{memory_refused, log_refused, engine_refused}
 use Rattle.plugd.proofs.kernel.Kernel.open.Goals as goal
+
+pub returns-in_default-clause-refused : goal.returns-in_default-clause-refused
+returns-in_default-clause-refused g c =
+    let w = goal.Engine-dyn g (object c.args.engine) in
+    let was : Working = record { kind = w.kind c.args.engine.value; reading = w.reading c.args.engine.value; state = w.state c.args.engine.value; holds = w.holds c.args.engine.value } in
+    let s0 = goal.Storage-dyn g (object c.args.volume.storage) in
+    memory_refused was (s0.disk c.args.volume.storage.value) c.requires.journal.apart
 
 pub returns-in-Err-clause-refused : goal.returns-in-Err-clause-refused
 returns-in-Err-clause-refused g c =
@@ -29,12 +36,12 @@ returns-in-Ok-bring-clause-begins g c =
     let s1 = goal.Storage-dyn g (object c.open_log.new.storage) in
     let start = s0.disk c.args.volume.storage.value in
     let mid = s1.disk c.open_log.new.storage.value in
-    let o : LogOpens start mid c.none-found.result c.open_log.new.found c.in-Ok.opened.log c.in-Ok.opened.cut = record {
-      on = record { told = c.in-Ok.ensures.device.told; later = c.in-Ok.ensures.device.later; no_fewer = c.in-Ok.ensures.device.no_fewer };
-      none_is = c.none-found.ensures;
-      opened = c.in-Ok.ensures.opened;
-      given = c.in-Ok.ensures.visited;
-      moments = c.in-Ok.ensures.any_moment;
+    let o : LogOpens start mid c.in-Ok.found c.open_log.new.found c.in-Ok-open_log.opened.log c.in-Ok-open_log.opened.cut = record {
+      on = record { told = c.in-Ok-open_log.ensures.device.told; later = c.in-Ok-open_log.ensures.device.later; no_fewer = c.in-Ok-open_log.ensures.device.no_fewer };
+      none_is = c.in-Ok.ensures;
+      opened = c.in-Ok-open_log.ensures.opened;
+      given = c.in-Ok-open_log.ensures.visited;
+      moments = c.in-Ok-open_log.ensures.any_moment;
     } in
     let flushed = c.flushed-logged.ensures in
     let s2 = goal.Storage-dyn g (object c.bring.new.storage) in
@@ -44,7 +51,7 @@ returns-in-Ok-bring-clause-begins g c =
     let kind_is = c.in-Ok-bring.ensures.same.kind in
     let pairs_are = c.deref.ensures.value in
     subst (λ (k : Kind). Begins c.args.limit start (record { server = c.new.result; engine = record { kind = k; reading = e.reading v; state = e.state v; holds = e.holds v }; disk = end })) (sym kind_is)
-    (opened_begins was (e.reading v) (e.state v) (e.holds v) c.in-Ok-bring.field-0 start mid end c.none-found.result c.open_log.new.found c.in-Ok.opened.log c.in-Ok.opened.cut c.args.limit c.new.result c.requires.journal c.requires.limit o (record {
+    (opened_begins was (e.reading v) (e.state v) (e.holds v) c.in-Ok-bring.field-0 start mid end c.in-Ok.found c.open_log.new.found c.in-Ok-open_log.opened.log c.in-Ok-open_log.opened.cut c.args.limit c.new.result c.requires.journal c.requires.limit o (record {
       on = record { told = c.in-Ok-bring.ensures.device.told; later = c.in-Ok-bring.ensures.device.later; no_fewer = c.in-Ok-bring.ensures.device.no_fewer };
       same = c.in-Ok-bring.ensures.same.reading;
       brought = subst (λ (k : Kind). IsBrought (record { kind = k; reading = e.reading v; state = e.state v; holds = e.holds v }) end) kind_is c.in-Ok-bring.ensures.brought;
@@ -53,7 +60,7 @@ returns-in-Ok-bring-clause-begins g c =
           (c.in-Ok-bring.ensures.last (subst (λ (l : List (ℕ × ℕ)). All (λ (pair : ℕ × ℕ). pair.1 ≤ c.flushed-logged.result) l) (sym pairs_are) (subst (λ (n : ℕ). All (λ (pair : ℕ × ℕ). pair.1 ≤ n) c.open_log.new.found.pairs.items) (sym flushed) all)));
       recovers = λ list distinct pairs count told at. c.in-Ok-bring.ensures.recovers list distinct (subst (ArePairsOf list) (sym pairs_are) pairs) (flushed ∙ count) told at;
       others = c.in-Ok-bring.ensures.others;
-    }) (record { log_is = c.new.ensures.log; xids_are = c.new.ensures.xids; seen_is = c.new.ensures.seen; limit_is = c.new.ensures.limit; lines = c.new.ensures.lines; acks = c.new.ensures.acks; halted = c.new.ensures.halted }))
+    }) (record { log_is = c.new.ensures.log; xids_are = c.new.ensures.xids; dictionary_is = c.new.ensures.dictionary; limit_is = c.new.ensures.limit; lines = c.new.ensures.lines; acks = c.new.ensures.acks; halted = c.new.ensures.halted }))
 
 pub returns-in-Err-bring-clause-refused : goal.returns-in-Err-bring-clause-refused
 returns-in-Err-bring-clause-refused g c =
@@ -63,12 +70,12 @@ returns-in-Err-bring-clause-refused g c =
     let s1 = goal.Storage-dyn g (object c.open_log.new.storage) in
     let start = s0.disk c.args.volume.storage.value in
     let mid = s1.disk c.open_log.new.storage.value in
-    let o : LogOpens start mid c.none-found.result c.open_log.new.found c.in-Ok.opened.log c.in-Ok.opened.cut = record {
-      on = record { told = c.in-Ok.ensures.device.told; later = c.in-Ok.ensures.device.later; no_fewer = c.in-Ok.ensures.device.no_fewer };
-      none_is = c.none-found.ensures;
-      opened = c.in-Ok.ensures.opened;
-      given = c.in-Ok.ensures.visited;
-      moments = c.in-Ok.ensures.any_moment;
+    let o : LogOpens start mid c.in-Ok.found c.open_log.new.found c.in-Ok-open_log.opened.log c.in-Ok-open_log.opened.cut = record {
+      on = record { told = c.in-Ok-open_log.ensures.device.told; later = c.in-Ok-open_log.ensures.device.later; no_fewer = c.in-Ok-open_log.ensures.device.no_fewer };
+      none_is = c.in-Ok.ensures;
+      opened = c.in-Ok-open_log.ensures.opened;
+      given = c.in-Ok-open_log.ensures.visited;
+      moments = c.in-Ok-open_log.ensures.any_moment;
     } in
     let flushed = c.flushed-logged.ensures in
     let s2 = goal.Storage-dyn g (object c.bring.new.storage) in
@@ -76,7 +83,7 @@ returns-in-Err-bring-clause-refused g c =
     let e = goal.Engine-dyn g (object c.bring.new.engine) in
     let v = c.bring.new.engine.value in
     let pairs_are = c.deref.ensures.value in
-    engine_refused was (e.state v) start mid end c.none-found.result c.open_log.new.found c.in-Ok.opened.log c.in-Ok.opened.cut c.in-Err-bring.fault c.requires.journal.apart o c.in-Err-bring.ensures.device
+    engine_refused was (e.state v) start mid end c.in-Ok.found c.open_log.new.found c.in-Ok-open_log.opened.log c.in-Ok-open_log.opened.cut c.in-Err-bring.fault c.requires.journal.apart o c.in-Err-bring.ensures.device
     (subst (λ (n : ℕ). TellsOnly was.kind was.reading mid n (Err c.in-Err-bring.fault)) flushed c.in-Err-bring.ensures.tells)
     (λ list distinct pairs count told at. c.in-Err-bring.ensures.recovers list distinct (subst (ArePairsOf list) (sym pairs_are) pairs) (flushed ∙ count) told at)
     c.in-Err-bring.ensures.others

@@ -15,10 +15,12 @@ returns-then-transaction_len-from c =
     let small = c.requires.limit in
     record {
       spells = record {
-        same = record { log = refl; xids = refl; seen = refl; acks = refl; lines = refl; limit = refl; halted = refl };
+        same = record { log = refl; xids = refl; acks = refl; lines = refl; limit = refl; halted = refl };
         spelt = λ is. cc;
         fits = λ is. cc;
         room = λ is. cc;
+        noted = λ is. cc;
+        unnoted = λ is. refl;
         spent = λ is. omega (arith, end.1, c.room.ensures, c.from.ensures, c.if-transaction_len-from.true, small);
       };
     }
@@ -29,12 +31,14 @@ returns c =
     let small = c.requires.limit in
     record {
       spells = record {
-        same = record { log = refl; xids = refl; seen = refl; acks = c.reserve.ensures.items; lines = refl; limit = refl; halted = refl };
+        same = record { log = refl; xids = refl; acks = c.reserve.ensures.items; lines = refl; limit = refl; halted = refl };
         spelt = λ is. spelt c.args.self.now.log c.len-at.result c.last_crc-prev.result c.args.xid c.transaction_len.result c.args.changes c.put_transaction.new.out.items c.clear.new.self.items
             c.len-at.ensures.value c.last_crc-prev.ensures (omega (arith, c.ranges.xid)) c.requires.some c.requires.fit c.transaction_len.ensures.value
             (omega (arith, c.room.ensures, c.from.ensures, c.if-transaction_len-from.false, small)) c.clear.ensures.items c.in_ok-put_transaction.ensures.ok;
         fits = λ is. omega (arith, transaction_size 0 c.args.changes, end.1, c.room.ensures, c.from.ensures, c.if-transaction_len-from.false, small);
         room = λ is. search rules;
+        noted = λ is. search rules;
         spent = λ is. cc;
+        unnoted = λ is. cc;
       };
     }

@@ -1,0 +1,15 @@
+-- What does a dictionary tell after the changes of a transaction? (This project.)
+use Rattle.std.specs.Prelude.{◌≡◌, List}
+use Rattle.std.specs.List.{fold}
+use Rattle.row_format.specs.declared.change.Change.{Change}
+use Rattle.dictionary.specs.Dictionary.{DictionaryState, dictionary_change}
+use Rattle.plugd.specs.Asked.{Catalog}
+
+-- a dictionary after changes, one after the other
+abbrev pub dictionary_after : List Change → DictionaryState → DictionaryState
+dictionary_after changes old = fold (λ so_far it. dictionary_change it so_far) old changes
+
+-- the dictionary has the definitions and the installed engines of this catalog
+pub record HasCatalog (dictionary : DictionaryState) (here : Catalog) : Type 0 where
+  pub definitions : dictionary.definitions ≡ here.definitions
+  pub installed : dictionary.installed ≡ here.installed
