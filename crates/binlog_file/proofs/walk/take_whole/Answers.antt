@@ -32,6 +32,11 @@ loop-found-smaller g c =
     let fits = found_fits _ _ _ _ finds in
     shorter c.loop-found.rest.now c.in-Some.found.len fits.2 fits.1
 
+pub take-requires : goal.take-requires
+take-requires g c =
+    let finds = some_is _ c.in-Some.found (Finds c.loop-found.scan.crc c.loop-found.scan.len c.loop-found.rest.now) c.in-Some.is c.in_ok-found.ensures.found in
+    record { fit = finds.here.fit }
+
 pub loop-found-preserved : goal.loop-found-preserved
 loop-found-preserved g c =
     let finds = some_is _ c.in-Some.found (Finds c.loop-found.scan.crc c.loop-found.scan.len c.loop-found.rest.now) c.in-Some.is c.in_ok-found.ensures.found in
