@@ -2,17 +2,16 @@
 use Rattle.std.proofs.Common.{◌≡◌, ℕ, ◌+◌, ◌<◌, List, [], ◌∷◌, ◌++◌, length, take, Some, None, Result, Ok, Err, OnErr, IfOk, refl, sym, ◌∙◌, ap, subst, arith, length-append}
 use Rattle.std.specs.Prelude.{IsErr}
 use Rattle.std.specs.declared.alloc.AllocError.{AllocError}
-use Rattle.plugd.specs.declared.command.Command.{Command}
-use Rattle.plugd.specs.declared.command.Command.TheVariants as command
 use Rattle.plugd.specs.declared.reply.HaltCause.{HaltCause}
 use Rattle.plugd.specs.declared.reply.Reply.{Reply}
 use Rattle.plugd.specs.declared.reply.Reply.TheVariants.{Halted, BadLine}
 use Rattle.plugd.specs.declared.server.Server.{Server}
-use Rattle.plugd.specs.Command.{IsCommand}
-use Rattle.plugd.specs.Play.{Turn, IsStatement, next_line, settles, bad, halts, numbers_of}
+use Rattle.plugd.specs.Texts.{Gives, IsUnknown}
+use Rattle.plugd.specs.Play.{Turn, next_line, settles, bad, halts, numbers_of}
 use Rattle.plugd.specs.Serve.{Base, Core, rules_of, Serving, Halts}
 use Rattle.plugd.specs.Way.{IsOnWay, IsBegun, SomeOnWay, PlaysOne}
-use Rattle.plugd.proofs.CommandLemmas.{command_of_front}
+use Rattle.schedule_text.specs.Lines.{settle, IsLine}
+use Rattle.plugd.proofs.TextLemmas.{settles_line, given_line, unknown_line, some_text}
 use Rattle.plugd.proofs.WayLemmas.{plays_push, numbers_same}
 use Rattle.plugd.proofs.GivenLemmas.{served_by}
 
@@ -43,31 +42,29 @@ next_now base lines replies core line more s turn none = record {
     len = s.shows.len;
   };
   met = s.met;
+  sound = s.sound;
   idle = λ serves. let i = s.idle serves in record { pending = i.pending; kept = i.kept; none_prepared = i.none_prepared; live = i.live; last = i.last };
   rest = λ told serves. let r = s.rest told serves in record { durable = r.durable; knows = r.knows; asked_given = r.asked_given; catalog = r.catalog; at_work = r.at_work; recovered = r.recovered };
 }
 
--- what the front of a line asks for, the line does
-asks : (front line : List ℕ) (found one : Command) → IsCommand front found → found ≡ one → front ≡ take 80 line → IsCommand line one
-asks front line found one is same part = command_of_front line one (subst (λ (l : List ℕ). IsCommand l one) part (subst (IsCommand front) same is))
-
 -- `settle`
-pub settled_now : (base : Base) (lines : List (List ℕ)) (replies : List Reply) (core : Core) (front line : List ℕ) (found : Command) → IsCommand front found → found ≡ command.Settle → front ≡ take 80 line → Serving base lines replies core
+pub settled_now : (base : Base) (lines : List (List ℕ)) (replies : List Reply) (core : Core) (front line : List ℕ) → IsLine front settle → front ≡ take 65542 line → Serving base lines replies core
     → Serving base (lines ++ line ∷ []) (replies ++ []) (served_by (counted core.server) core)
-settled_now base lines replies core front line found is same part s = next_now base lines replies core line [] s (settles (asks front line found command.Settle is same part) refl refl) refl
+settled_now base lines replies core front line is part s = next_now base lines replies core line [] s (settles (settles_line front line part is) refl refl) refl
 
 -- a line that is not known
-pub bad_now : (base : Base) (lines : List (List ℕ)) (replies : List Reply) (core : Core) (front line : List ℕ) (found : Command) → IsCommand front found → found ≡ command.Bad → front ≡ take 80 line → Serving base lines replies core
+pub bad_now : (base : Base) (lines : List (List ℕ)) (replies : List Reply) (core : Core) (front line : List ℕ) → IsUnknown front → front ≡ take 65542 line → Serving base lines replies core
     → Serving base (lines ++ line ∷ []) (replies ++ BadLine (core.server.lines + 1) ∷ []) (served_by (counted core.server) core)
-bad_now base lines replies core front line found is same part s =
+bad_now base lines replies core front line is part s =
     next_now base lines replies core line (BadLine (core.server.lines + 1) ∷ []) s
-    (bad (asks front line found command.Bad is same part) (ap (λ (n : ℕ). BadLine (n + 1) ∷ []) s.shows.line) refl) refl
+    (bad (unknown_line front line part is) (ap (λ (n : ℕ). BadLine (n + 1) ∷ []) s.shows.line) refl) refl
 
 -- a statement after a halt
-pub still_halted : (base : Base) (lines : List (List ℕ)) (replies : List Reply) (core : Core) (front line : List ℕ) (found one : Command) (cause : HaltCause) → IsCommand front found → found ≡ one → IsStatement one → core.server.halted ≡ Some cause
-    → front ≡ take 80 line → Serving base lines replies core → Serving base (lines ++ line ∷ []) (replies ++ Halted cause ∷ []) (served_by (counted core.server) core)
-still_halted base lines replies core front line found one cause is same statement halted part s =
-    next_now base lines replies core line (Halted cause ∷ []) s (halts one (asks front line found one is same part) statement cause (sym s.shows.halted ∙ halted) refl refl) refl
+pub still_halted : (base : Base) (lines : List (List ℕ)) (replies : List Reply) (core : Core) (front line text : List ℕ) (cause : HaltCause) → Gives front text → core.server.halted ≡ Some cause
+    → front ≡ take 65542 line → Serving base lines replies core → Serving base (lines ++ line ∷ []) (replies ++ Halted cause ∷ []) (served_by (counted core.server) core)
+still_halted base lines replies core front line text cause is halted part s =
+    let it = some_text text line (given_line front line text part is) in
+    next_now base lines replies core line (Halted cause ∷ []) s (halts it.0 it.1 cause (sym s.shows.halted ∙ halted) refl refl) refl
 
 -- a statement is on its way
 on_way : (base : Base) (lines : List (List ℕ)) (replies : List Reply) (core : Core) → (s : Serving base lines replies core) → core.server.halted ≡ None
@@ -85,6 +82,7 @@ on_way base lines replies core s serves = record {
       count = s.stopped.count;
       whole = s.stopped.whole;
     };
+    sound = s.sound;
     serves = serves;
     is_serving = is;
     met = s.met is;
@@ -111,27 +109,19 @@ pub few_lines : (base : Base) (lines : List (List ℕ)) (replies : List Reply) (
 few_lines base lines replies core s few = let shown = s.shows.line in let line = s.line in omega (arith, shown, line, few)
 
 -- it is played to its reply
-pub played_now : (base : Base) (lines : List (List ℕ)) (replies : List Reply) (core new : Core) (front line : List ℕ) (found one : Command) (reply : Reply) → IsCommand front found → found ≡ one → core.server.halted ≡ None
-    → PlaysOne one (served_by (counted core.server) core) new (Ok reply) → front ≡ take 80 line → Serving base lines replies core → Serving base (lines ++ line ∷ []) (replies ++ reply ∷ []) new
-played_now base lines replies core new front line found one reply is same serves plays part s =
-    plays.ok (record { base = base; lines = lines; replies = replies; state = s.state }) (begun base lines replies core s serves) reply refl line (asks front line found one is same part)
+pub played_now : (base : Base) (lines : List (List ℕ)) (replies : List Reply) (core new : Core) (front line text : List ℕ) (reply : Reply) → Gives front text → core.server.halted ≡ None
+    → PlaysOne text (served_by (counted core.server) core) new (Ok reply) → front ≡ take 65542 line → Serving base lines replies core → Serving base (lines ++ line ∷ []) (replies ++ reply ∷ []) new
+played_now base lines replies core new front line text reply is serves plays part s =
+    plays.ok (record { base = base; lines = lines; replies = replies; state = s.state }) (begun base lines replies core s serves) reply refl line (given_line front line text part is)
 
 -- it is not, for want of memory
-pub unplayed_now : (base : Base) (lines : List (List ℕ)) (replies : List Reply) (core new : Core) (one : Command) (e : AllocError) → core.server.halted ≡ None → PlaysOne one (served_by (counted core.server) core) new (Err e)
+pub unplayed_now : (base : Base) (lines : List (List ℕ)) (replies : List Reply) (core new : Core) (text : List ℕ) (e : AllocError) → core.server.halted ≡ None → PlaysOne text (served_by (counted core.server) core) new (Err e)
     → Serving base lines replies core → Halts base lines replies new
-unplayed_now base lines replies core new one e serves plays s = plays.err (record { base = base; lines = lines; replies = replies; state = s.state }) (begun base lines replies core s serves)
+unplayed_now base lines replies core new text e serves plays s = plays.err (record { base = base; lines = lines; replies = replies; state = s.state }) (begun base lines replies core s serves)
 
 -- nor was the line read
 pub unread_now : (base : Base) (lines : List (List ℕ)) (replies : List Reply) (core : Core) → Serving base lines replies core → Halts base lines replies core
 unread_now base lines replies core s = record { state = s.state; stopped = s.stopped; halted = s.shows.halted }
-
--- what is neither `settle` nor unknown is a statement
-pub statement_is : (one : Command) → (one ≡ command.Settle → ⊥) → (one ≡ command.Bad → ⊥) → IsStatement one
-statement_is command.Settle a b = absurd (a refl)
-statement_is command.Bad a b = absurd (b refl)
-statement_is command.Install a b = tt
-statement_is command.Create a b = tt
-statement_is (command.Insert key text) a b = tt
 
 -- of a want of memory nothing is asked as of an answer
 pub if_err : {T : Type 0} (P : T → Type 0) (r : Result T AllocError) → IsErr r → IfOk r P

@@ -15,7 +15,7 @@ no_log here = ⊎_elim (λ first. omega (arith, first)) (λ second. omega (arith
 
 -- the kind of JOURNAL, in the files 16 and 17
 is_journal_at : (kind : Kind) (e : Journaled) → kind ≡ kind_of e → e ≡ not_begun 16 → IsJournal kind
-is_journal_at kind e same is = subst IsJournal (sym (same ∙ ap kind_of is)) (record { name = refl; flags = refl; apart = λ here. no_log here })
+is_journal_at kind e same is = subst IsJournal (sym (same ∙ ap kind_of is)) (record { name = refl; library = refl; flags = refl; apart = λ here. no_log here })
 
 -- the kind of a box that was made of a value
 kind_made : {A : Type 0} {V : Unit {0} ⊎ ⊥ → Type 0} (kind_at : DynBox (Unit {0} ⊎ ⊥) A V → Kind) (b : DynBox (Unit {0} ⊎ ⊥) A V) (codes : (x : Unit {0} ⊎ ⊥) → V x → Gv) (vtable : Unit {0} ⊎ ⊥) (value : V vtable) (v : V (inl tt))

@@ -6,7 +6,7 @@ use Rattle.std.proofs.lemmas.List.{append-nil}
 use Rattle.row_format.specs.declared.change.Change.{Change}
 use Rattle.log_tables.specs.declared.gist.Gist.{Gist}
 use Rattle.engine_api.specs.States.{EngineState, Pending, begun_state, changes_of, with_change}
-use Rattle.plugd.specs.Changed.{with_changes}
+use Rattle.sql_exec.specs.Changes.{with_changes}
 
 -- what a transaction that is not prepared has pending
 abbrev pending_with : ℕ → List Change → Pending

@@ -1,17 +1,16 @@
 -- The dictionary of a log, and its catalog: they go on with the log.
 use Rattle.std.proofs.Common.{◌≡◌, ℕ, List, [], ◌∷◌, ◌++◌, refl, sym, ◌∙◌, ap, append_assoc}
-use Rattle.std.specs.Prelude.{is_some}
 use Rattle.std.proofs.lemmas.List.{append-nil}
 use Rattle.row_format.specs.declared.change.Change.{Change}
 use Rattle.row_format.specs.declared.change.Transaction.{Transaction}
 use Rattle.log_tables.specs.declared.table.Table.{Table}
-use Rattle.log_tables.specs.Tables.{table_named}
 use Rattle.log_tables.specs.Changes.{installed_changes, installed_after, tables_after}
 use Rattle.log_tables.proofs.FoldLemmas.{tables_after-append, installed_after-append}
 use Rattle.dictionary.specs.Dictionary.{DictionaryState, definitions_of, bare_tables, Tells, changes_of}
-use Rattle.dictionary.proofs.DefinitionLemmas.{definitions_of-bare_tables, definition_named-definitions_of, is_some-option_map}
+use Rattle.dictionary.proofs.DefinitionLemmas.{definitions_of-bare_tables}
 use Rattle.dictionary.proofs.TellsLemmas.{after_changes-changes_of, installed_changes-changes_of}
-use Rattle.plugd.specs.Asked.{Catalog, catalog_after, is_made, table_name}
+use Rattle.sql_step.specs.Catalogs.{Catalog}
+use Rattle.plugd.specs.Asked.{catalog_after}
 use Rattle.plugd.specs.Serve.{IsCatalogOf}
 use Rattle.plugd.proofs.NotingLemmas.{definitions_alike}
 
@@ -19,10 +18,6 @@ use Rattle.plugd.proofs.NotingLemmas.{definitions_alike}
 pub changes_of-push : (log : List Transaction) (t : Transaction) → changes_of (log ++ t ∷ []) ≡ changes_of log ++ t.changes
 changes_of-push [] t = append-nil t.changes
 changes_of-push (it ∷ log) t = ap (λ (l : List Change). it.changes ++ l) (changes_of-push log t) ∙ sym (append_assoc it.changes (changes_of log) t.changes)
-
--- the one table is among the definitions of tables where it is among them
-pub made_of : (ts : List Table) → is_made (definitions_of ts) ≡ is_some (table_named table_name ts)
-made_of ts = ap is_some (definition_named-definitions_of table_name ts) ∙ is_some-option_map (λ (it : Table). it.definition) (table_named table_name ts)
 
 -- A dictionary that tells the changes of a log has the catalog of the log.
 pub told_catalog : (log : List Transaction) (d : DictionaryState) (live : List Table) → Tells (changes_of log) d

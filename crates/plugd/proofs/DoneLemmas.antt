@@ -15,13 +15,13 @@ use Rattle.recovery_rules.specs.Recovery.{ShelfEngine, Suits, IsRecoverable, IsR
 use Rattle.volume_rules.specs.Readers.{Reader}
 use Rattle.volume_rules.proofs.ListLemmas.{of_one}
 use Rattle.volume_rules.proofs.StepLemmas.{alone, tables_of, tables_end, share_next, prepared_is, logged_is, committed_is}
-use Rattle.plugd.specs.declared.command.Command.{Command}
 use Rattle.plugd.specs.Serve.{session}
-use Rattle.plugd.specs.Asked.{engine_name}
-use Rattle.plugd.specs.Play.{is_prepared_for, IsNextGiven}
+use Rattle.plugd.specs.Asked.{Work, engine_name, is_prepared_for}
+use Rattle.plugd.specs.Play.{IsNextGiven}
 use Rattle.plugd.specs.Serve.{Core, rules_of, reader_of, shelf_of, CouldRecover, IsAtRest, IsJournal}
-use Rattle.plugd.specs.Changed.{with_changes}
-use Rattle.plugd.specs.Way.{Past, IsOnWay, changed_if, AreOwn, IsGranted, IsExecuted}
+use Rattle.sql_exec.specs.Changes.{with_changes}
+use Rattle.sql_step.specs.Logs.{AreOwn}
+use Rattle.plugd.specs.Way.{Past, IsOnWay, changed_if, IsGranted, IsExecuted}
 use Rattle.plugd.proofs.CallsLemmas.{idle_is, new_xid}
 use Rattle.plugd.proofs.ChangedLemmas.{changed_state, with_changes-begun}
 use Rattle.plugd.proofs.SpellLemmas.{of_changes}
@@ -35,18 +35,18 @@ abbrev pub share : ℕ → List Change → Prepared
 share xid changes = record { xid = xid; changes = changes }
 
 -- a statement of the engine leaves this state of one that was idle
-pub executed_is : (past : Past) (idle : EngineState) (asks : Command) (changes : List Change) (given : List ℕ) (core : Core) → is_prepared_for asks ≡ true → IsExecuted past idle asks changes given core
+pub executed_is : (past : Past) (idle : EngineState) (asks : Work) (changes : List Change) (given : List ℕ) (core : Core) → is_prepared_for asks ≡ true → IsExecuted past idle asks changes given core
     → core.engine.state ≡ changed_state session changes idle.gist
 executed_is past idle asks changes given core touches is =
     is.state ∙ ap (λ (b : Bool). changed_if b changes idle) touches ∙ ap (with_changes session changes) (idle_is idle past.state is.way.was_idle)
     ∙ with_changes-begun session changes idle.gist is.granted.makes.some
 
 -- its images read as the gist that it had
-pub executed_kept : (past : Past) (idle : EngineState) (asks : Command) (changes : List Change) (given : List ℕ) (core : Core) → is_prepared_for asks ≡ true → IsExecuted past idle asks changes given core → core.engine.state.kept ≡ idle.gist ∷ []
+pub executed_kept : (past : Past) (idle : EngineState) (asks : Work) (changes : List Change) (given : List ℕ) (core : Core) → is_prepared_for asks ≡ true → IsExecuted past idle asks changes given core → core.engine.state.kept ≡ idle.gist ∷ []
 executed_kept past idle asks changes given core touches is = ap (λ (s : EngineState). s.kept) (executed_is past idle asks changes given core touches is)
 
 -- behind a prepare they read as the gist with the share
-pub prepared_kept : (past : Past) (idle : EngineState) (asks : Command) (changes : List Change) (given : List ℕ) (core : Core) (xid : ℕ) → is_prepared_for asks ≡ true → IsExecuted past idle asks changes given core
+pub prepared_kept : (past : Past) (idle : EngineState) (asks : Work) (changes : List Change) (given : List ℕ) (core : Core) (xid : ℕ) → is_prepared_for asks ≡ true → IsExecuted past idle asks changes given core
     → (prepared_state session xid core.engine.state).kept ≡ after_prepare (share xid changes) idle.gist ∷ []
 prepared_kept past idle asks changes given core xid touches is = ap (λ (s : EngineState). (prepared_state session xid s).kept) (executed_is past idle asks changes given core touches is)
 
@@ -59,7 +59,7 @@ pub record IsFit (past : Past) (core : Core) (gist : Gist) (changes : List Chang
   pub own : changes_on core.engine.kind.name changes (tables_after (so_far past)) ≡ changes
   pub apply : EachApplies core.engine.kind.name changes (tables_after (so_far past))
 
-pub is_fit : (past : Past) (idle : EngineState) (asks : Command) (changes : List Change) (given : List ℕ) (core : Core) (xid : ℕ) → is_prepared_for asks ≡ true → IsOnWay past idle given core → IsGranted past asks changes
+pub is_fit : (past : Past) (idle : EngineState) (asks : Work) (changes : List Change) (given : List ℕ) (core : Core) (xid : ℕ) → is_prepared_for asks ≡ true → IsOnWay past idle given core → IsGranted past asks changes
     → IsNextGiven (rules_of past.base) past.state xid → IsTrue past.base.start.told → CouldRecover past.base core.engine → IsFit past core idle.gist changes xid
 is_fit past idle asks changes given core xid touches way granted next told could = record {
   recovered = r.recovered could;
@@ -79,7 +79,7 @@ is_fit past idle asks changes given core xid touches way granted next told could
     live : past.state.catalog.live ≡ part_of engine_name (tables_after (so_far past))
     live = sym way.was_idle.live ∙ (tables_of (shelf_of core.engine) (so_far past) (reader_of core.engine) idle.gist (r.recovered could)).tables ∙ ap (λ (name : List ℕ). part_of name (tables_after (so_far past))) kind.name
 
-    are : AreOwn changes (tables_after (so_far past))
+    are : AreOwn engine_name changes (tables_after (so_far past))
     are = granted.can.own touches (so_far past) r.catalog live
 
 -- the engine's share of them is all

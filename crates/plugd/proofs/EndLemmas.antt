@@ -19,14 +19,12 @@ use Rattle.engine_api.specs.Many.{IsAtWork}
 use Rattle.engine_api.specs.Reads.{EachReads}
 use Rattle.recovery_rules.specs.Recovery.{ShelfEngine, SafeEngine, IsRecovered}
 use Rattle.plugd.specs.declared.ack.Ack.{Ack}
-use Rattle.plugd.specs.declared.command.Command.{Command}
-use Rattle.plugd.specs.declared.command.Command.TheVariants as command
 use Rattle.plugd.specs.declared.reply.Reply.{Reply}
 use Rattle.plugd.specs.declared.reply.Reply.TheVariants.{Done, Halted}
 use Rattle.plugd.specs.declared.reply.HaltCause.{HaltCause}
 use Rattle.plugd.specs.Serve.{session}
-use Rattle.plugd.specs.Asked.{after_command, catalog_after, count_of}
-use Rattle.plugd.specs.Changed.{with_changes}
+use Rattle.plugd.specs.Asked.{Work, catalog_after, count_of, is_prepared_for}
+use Rattle.sql_exec.specs.Changes.{with_changes}
 use Rattle.plugd.specs.LogOne.{IsDurable}
 use Rattle.plugd.specs.Crash.{all_of}
 use Rattle.binlog_file.specs.Binlog.{flushed_of, end_in}
@@ -41,11 +39,13 @@ use Rattle.plugd.specs.XidSet.{Knows}
 use Rattle.plugd.specs.Noting.{HasCatalog}
 use Rattle.plugd.specs.Serve.{IsCatalogOf}
 use Rattle.plugd.specs.Xids.{xids_of}
-use Rattle.plugd.specs.Play.{State, logged, halted_at, logged_size, IsStatement, IsAskedBy, IsNextGiven, is_prepared_for, fails_at, logs}
+use Rattle.plugd.specs.Play.{State, logged, halted_at, logged_size, IsAskedBy, IsNextGiven, fails_at, logs}
 use Rattle.plugd.specs.Serve.{Core, rules_of, reader_of, shelf_of, CouldRecover, IsCause, Secure, IsIdle, IsAtRest, IsJournal}
 use Rattle.plugd.specs.Way.{Past, IsAhead, IsGranted, IsReadyToLog, IsNoted, PlaysTo}
 use Rattle.plugd.proofs.AheadLemmas.{GoesOn}
 use Rattle.plugd.proofs.AskedLemmas.{catalog_goes}
+use Rattle.plugd.proofs.SoundLemmas.{sound_goes}
+use Rattle.plugd.proofs.TextLemmas.{given_comes}
 use Rattle.plugd.proofs.LogLemmas.{Logs}
 use Rattle.plugd.specs.Spell.{with_halt}
 use Rattle.plugd.proofs.WayLemmas.{plays_push, numbers_same, numbers-append}
@@ -75,28 +75,28 @@ some_same : {X : Type 0} {x y : X} → Some x ≡ Some y → x ≡ y
 some_same e = cc
 
 -- the engine has prepared the changes: its state
-pub prepared_is_state : (past : Past) (idle : EngineState) (asks : Command) (changes : List Change) (xid : ℕ) (core : Core) → IsReadyToLog past idle asks changes xid core
+pub prepared_is_state : (past : Past) (idle : EngineState) (asks : Work) (changes : List Change) (xid : ℕ) (core : Core) → IsReadyToLog past idle asks changes xid core
     → core.engine.state ≡ prepared_state session xid (changed_state session changes idle.gist)
 prepared_is_state past idle asks changes xid core ready =
     ready.state ∙ ap (λ (s : EngineState). prepared_state session xid (with_changes session changes s)) (idle_is idle past.state ready.way.was_idle)
     ∙ ap (prepared_state session xid) (with_changes-begun session changes idle.gist ready.granted.makes.some)
 
 -- its images read as the gist with the share
-pub ready_kept : (past : Past) (idle : EngineState) (asks : Command) (changes : List Change) (xid : ℕ) (core : Core) → IsReadyToLog past idle asks changes xid core → core.engine.state.kept ≡ after_prepare (share xid changes) idle.gist ∷ []
+pub ready_kept : (past : Past) (idle : EngineState) (asks : Work) (changes : List Change) (xid : ℕ) (core : Core) → IsReadyToLog past idle asks changes xid core → core.engine.state.kept ≡ after_prepare (share xid changes) idle.gist ∷ []
 ready_kept past idle asks changes xid core ready = ap (λ (s : EngineState). s.kept) (prepared_is_state past idle asks changes xid core ready)
 
 -- and behind a commit as the gist that has the changes
-pub committed_kept : (past : Past) (idle : EngineState) (asks : Command) (changes : List Change) (xid number : ℕ) (core : Core) → IsReadyToLog past idle asks changes xid core
+pub committed_kept : (past : Past) (idle : EngineState) (asks : Work) (changes : List Change) (xid number : ℕ) (core : Core) → IsReadyToLog past idle asks changes xid core
     → (committed_state session xid number core.engine.state).kept ≡ after_commit (share xid changes) number (after_prepare (share xid changes) idle.gist) ∷ []
 committed_kept past idle asks changes xid number core ready = ap (λ (s : EngineState). (committed_state session xid number s).kept) (prepared_is_state past idle asks changes xid core ready)
 
 -- what is known of it over a volume that could be recovered
-pub ready_fit : (past : Past) (idle : EngineState) (asks : Command) (changes : List Change) (xid : ℕ) (core : Core) → is_prepared_for asks ≡ true → IsReadyToLog past idle asks changes xid core
+pub ready_fit : (past : Past) (idle : EngineState) (asks : Work) (changes : List Change) (xid : ℕ) (core : Core) → is_prepared_for asks ≡ true → IsReadyToLog past idle asks changes xid core
     → IsTrue past.base.start.told → CouldRecover past.base core.engine → IsFit past core idle.gist changes xid
 ready_fit past idle asks changes xid core touches ready told could = is_fit past idle asks changes (past.state.given ++ xid ∷ []) core xid touches ready.way ready.granted ready.next told could
 
 -- What the write and the sync of the transaction did.
-pub logs_ready : (past : Past) (idle : EngineState) (asks : Command) (changes : List Change) (xid : ℕ) (core : Core) (disk : Disk) → is_prepared_for asks ≡ true → IsReadyToLog past idle asks changes xid core → GoesOn core.disk disk
+pub logs_ready : (past : Past) (idle : EngineState) (asks : Work) (changes : List Change) (xid : ℕ) (core : Core) (disk : Disk) → is_prepared_for asks ≡ true → IsReadyToLog past idle asks changes xid core → GoesOn core.disk disk
     → (IsTrue core.disk.told → Keeps core.disk disk (Only 0 (now core.disk) (Holds (so_far past) (so_far past ++ of_changes xid changes ∷ []))))
     → Logs past.base (so_far past) (of_changes xid changes) core (after_prepare (share xid changes) idle.gist) disk
 logs_ready past idle asks changes xid core disk touches ready on moments = record {
@@ -112,33 +112,23 @@ logs_ready past idle asks changes xid core disk touches ready on moments = recor
     first told = subst IsTrue ready.way.ahead.stopped.secure.told told
 
 -- a transaction by the rules
-pub asked_by : (past : Past) (asks : Command) (changes : List Change) (xid : ℕ) → IsGranted past asks changes → IsNextGiven (rules_of past.base) past.state xid → IsAskedBy (rules_of past.base) past.state asks (of_changes xid changes)
+pub asked_by : (past : Past) (asks : Work) (changes : List Change) (xid : ℕ) → IsGranted past asks changes → IsNextGiven (rules_of past.base) past.state xid → IsAskedBy (rules_of past.base) past.state asks (of_changes xid changes)
 asked_by past asks changes xid granted next = record { made = granted.makes; xid = next }
 
-pub prepared_statement : (asks : Command) → is_prepared_for asks ≡ true → IsStatement asks
-prepared_statement asks is = go asks is
-  where
-    go : (a : Command) → is_prepared_for a ≡ true → IsStatement a
-    go command.Settle e = cc
-    go command.Bad e = cc
-    go command.Install e = tt
-    go command.Create e = tt
-    go (command.Insert key text) e = tt
-
 -- A fault at the transaction, which may be in the log, halts the run.
-pub halted_at_it : (past : Past) (asks : Command) (changes : List Change) (xid : ℕ) (was core : Core) (cause : HaltCause) → IsStatement asks → IsAhead past was → IsGranted past asks changes → IsNextGiven (rules_of past.base) past.state xid
+pub halted_at_it : (past : Past) (asks : Work) (changes : List Change) (xid : ℕ) (was core : Core) (cause : HaltCause) → IsAhead past was → IsGranted past asks changes → IsNextGiven (rules_of past.base) past.state xid
     → past.state.len + logged_size changes ≤ past.base.limit
     → core.server.acks.items ≡ was.server.acks.items → core.server.lines ≡ was.server.lines → core.server.limit ≡ was.server.limit → core.engine.kind ≡ was.engine.kind
     → Secure past.base (so_far past ++ of_changes xid changes ∷ []) core → IsCause past.base core.engine.kind core.disk cause
-    → PlaysTo past asks (Halted cause) (record { server = with_halt cause core.server; engine = core.engine; disk = core.disk })
-halted_at_it past asks changes xid was core cause statement ahead granted next room acks lines limit kind secure is line asks_so = record {
+    → PlaysTo past asks.text (Halted cause) (record { server = with_halt cause core.server; engine = core.engine; disk = core.disk })
+halted_at_it past asks changes xid was core cause ahead granted next room acks lines limit kind secure is line gives = record {
   state = after;
   fixed = record { kind = subst (λ k. IsJournal k) (sym kind) ahead.fixed.kind; limit = limit ∙ ahead.fixed.limit; small = ahead.fixed.small };
   line = omega (arith, ahead.line, length-append past.lines (line ∷ []));
   stopped = record {
     secure = record { told = s.told; later = s.later; no_fewer = s.no_fewer; safe = s.safe; sound = s.sound; in_time = s.in_time; opened = s.opened };
     plays = plays_push (rules_of past.base) past.base.first past.lines past.replies past.state line (Halted cause ∷ []) after ahead.stopped.plays
-        (fails_at asks (record { asks_so = asks_so; statement = statement; serves = ahead.is_serving }) granted.granted (of_changes xid changes) (asked_by past asks changes xid granted next) room cause refl refl);
+        (fails_at asks (record { gives = given_comes asks.text line past.state.catalog asks.outcome gives granted.makes.comes; serves = ahead.is_serving }) (of_changes xid changes) (asked_by past asks changes xid granted next) room cause refl refl);
     numbers = numbers_same past.replies (Halted cause ∷ []) _ refl (ap (map (λ (ack : Ack). ack.number)) acks ∙ ahead.stopped.numbers);
     cause = λ c some. subst (IsCause past.base core.engine.kind core.disk) (some_same some) is;
     count = ahead.stopped.count;
@@ -152,6 +142,7 @@ halted_at_it past asks changes xid was core cause statement ahead granted next r
     len = λ none. absurd (no_none none);
   };
   met = λ none. absurd (no_none none);
+  sound = ahead.sound;
   idle = λ none. absurd (no_none none);
   rest = λ told none. absurd (no_none none);
 }
@@ -163,7 +154,7 @@ halted_at_it past asks changes xid was core cause statement ahead granted next r
     s = subst (λ (all : List Transaction). Secure past.base all core) (more_of past.base.found past.state.asked (of_changes xid changes)) secure
 
 -- What stands behind the commit of the transaction in the engine, and its acknowledgement.
-pub record IsDone (past : Past) (idle : EngineState) (asks : Command) (changes : List Change) (xid : ℕ) (was : Core) (core : Core) : Type 0 where
+pub record IsDone (past : Past) (idle : EngineState) (asks : Work) (changes : List Change) (xid : ℕ) (was : Core) (core : Core) : Type 0 where
   pub ready : IsReadyToLog past idle asks changes xid was
   pub touches : is_prepared_for asks ≡ true
   pub room : past.state.len + logged_size changes ≤ past.base.limit
@@ -183,7 +174,7 @@ pub record IsDone (past : Past) (idle : EngineState) (asks : Command) (changes :
   pub len : end_in core.server.log ≡ past.state.len + logged_size changes
 
 -- the engine behind the commit
-after_of : (past : Past) (idle : EngineState) (asks : Command) (changes : List Change) (xid : ℕ) (was core : Core) → IsDone past idle asks changes xid was core
+after_of : (past : Past) (idle : EngineState) (asks : Work) (changes : List Change) (xid : ℕ) (was core : Core) → IsDone past idle asks changes xid was core
     → core.engine.state ≡ begun_state (after_commit (share xid changes) (past.state.count + 1) (after_prepare (share xid changes) idle.gist))
 after_of past idle asks changes xid was core d =
     d.state ∙ ap (committed_state session xid (past.state.count + 1)) (prepared_is_state past idle asks changes xid was d.ready)
@@ -196,15 +187,15 @@ abbrev engine_as : Kind → Gist → List SafeEngine
 engine_as kind gist = (record { engine = kind.name; allows = allows kind.flags; gist = gist }) ∷ []
 
 -- The line ends with its acknowledgement.
-pub done_now : (past : Past) (idle : EngineState) (asks : Command) (changes : List Change) (xid : ℕ) (was core : Core) → IsDone past idle asks changes xid was core → PlaysTo past asks (Done (count_of asks) (past.state.count + 1)) core
-done_now past idle asks changes xid was core d line asks_so = record {
+pub done_now : (past : Past) (idle : EngineState) (asks : Work) (changes : List Change) (xid : ℕ) (was core : Core) → IsDone past idle asks changes xid was core → PlaysTo past asks.text (Done (count_of asks) (past.state.count + 1)) core
+done_now past idle asks changes xid was core d line gives = record {
   state = after;
   fixed = record { kind = subst (λ k. IsJournal k) (sym d.kind) ahead.fixed.kind; limit = d.limit ∙ ahead.fixed.limit; small = ahead.fixed.small };
   line = omega (arith, ahead.line, length-append past.lines (line ∷ []));
   stopped = record {
     secure = subst (λ (all : List Transaction). Secure past.base all core) (joined ∙ ap (λ (l : List Transaction). past.base.found ++ l) (sym (append-nil (past.state.asked ++ t ∷ [])))) d.secure;
     plays = plays_push (rules_of past.base) past.base.first past.lines past.replies past.state line (reply ∷ []) after ahead.stopped.plays
-        (logs asks (record { asks_so = asks_so; statement = prepared_statement asks d.touches; serves = ahead.is_serving }) d.ready.granted.granted t (asked_by past asks changes xid d.ready.granted d.ready.next) d.room refl refl);
+        (logs asks (record { gives = given_comes asks.text line past.state.catalog asks.outcome gives d.ready.granted.makes.comes; serves = ahead.is_serving }) t (asked_by past asks changes xid d.ready.granted d.ready.next) d.room refl refl);
     numbers = ap (map (λ (a : Ack). a.number)) d.acks ∙ map-append (λ (a : Ack). a.number) was.server.acks.items (ack ∷ []) ∙ ap (λ (l : List ℕ). l ++ (past.state.count + 1) ∷ []) ahead.stopped.numbers
         ∙ sym (numbers-append past.replies (reply ∷ []));
     cause = λ c some. absurd (no_none (sym some));
@@ -214,16 +205,17 @@ done_now past idle asks changes xid was core d line asks_so = record {
   shows = record {
     line = d.lines ∙ ahead.counted;
     halted = d.halted;
-    catalog = λ none. subst (λ (cs : List Change). HasCatalog core.server.dictionary (catalog_after cs past.state.catalog)) d.ready.granted.makes.all d.noted;
+    catalog = λ none. d.noted;
     count = λ none. d.count;
     len = λ none. d.len;
   };
   met = λ none. refl;
+  sound = sound_goes changes past.state.catalog.definitions d.ready.granted.fit ahead.sound;
   idle = λ none. subst (λ (s : EngineState). IsIdle s after) (sym state_is) (record {
     pending = refl;
     kept = refl;
     none_prepared = none_left xid idle.gist (share xid changes) d.ready.way.was_idle.none_prepared refl;
-    live = ap (after_changes changes) d.ready.way.was_idle.live ∙ ap (λ (l : List Change). after_changes l past.state.catalog.live) d.ready.granted.makes.all;
+    live = ap (after_changes changes) d.ready.way.was_idle.live;
     last = omega arith;
   });
   rest = λ told none. rest_now told;
@@ -236,7 +228,7 @@ done_now past idle asks changes xid was core d line asks_so = record {
     ahead = d.ready.way.ahead
 
     after : State
-    after = logged asks t past.state
+    after = logged t past.state
 
     reply : Reply
     reply = Done (count_of asks) (past.state.count + 1)
@@ -277,7 +269,7 @@ done_now past idle asks changes xid was core d line asks_so = record {
           knows = subst (λ (set : XidSet). Knows set (xids_of past.base.found ++ (past.state.given ++ xid ∷ []))) (sym d.xids) r.knows;
           asked_given = λ x on. ⊎_elim (λ old. Contains-append_left past.state.given (xid ∷ []) x (r.asked_given x old)) (λ new. Contains-append_right past.state.given (xid ∷ []) x new)
               (Contains-append_cases (xids_of past.state.asked) (xid ∷ []) x (subst (λ (l : List ℕ). Contains l x) (map-append (λ (u : Transaction). u.xid) past.state.asked (t ∷ [])) on));
-          catalog = subst (λ (l : List Transaction). IsCatalogOf l (after_command asks past.state.catalog)) joined (catalog_goes (so_far past) t past.state.catalog asks d.ready.granted.makes.all r.catalog);
+          catalog = subst (λ (l : List Transaction). IsCatalogOf l (catalog_after changes past.state.catalog)) joined (catalog_goes (so_far past) t past.state.catalog r.catalog);
           at_work = d.work (told_now told);
           recovered = λ could. subst (λ (g : Gist). IsRecovered (shelf_of core.engine) (past.base.found ++ (past.state.asked ++ t ∷ [])) (with_gists (reader_of core.engine ∷ []) (g ∷ []))) (sym gist_is) (recovered_after told could);
         }

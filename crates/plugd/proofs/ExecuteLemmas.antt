@@ -1,279 +1,292 @@
--- The execution of a statement, by its outcome.
-use Rattle.std.proofs.Common.{◌≡◌, ℕ, ℤ, ◌<◌, ◌^◌, List, [], ◌∷◌, length, Option, Some, None, Bool, true, false, cond, Result, Ok, refl, sym, ◌∙◌, ap, subst, arith}
-use Rattle.std.specs.Prelude.{IsErr, is_some, ◌||◌}
-use Rattle.std.specs.Str.{bytes_eq}
-use Rattle.std.specs.List.{list_any}
+-- The execution of a text, by its answer.
+use Rattle.std.proofs.Common.{◌≡◌, ℕ, List, [], ◌∷◌, ◌++◌, Some, None, Bool, false, Result, Ok, OnOk, IfOk, IsTrue, refl, sym, ◌∙◌, ap, subst}
+use Rattle.std.specs.Prelude.{Err, IfErr, IsErr, Contains}
 use Rattle.std.specs.declared.alloc.AllocError.{AllocError}
-use Rattle.sql_value.specs.declared.value.Value.{Value}
+use Rattle.disk_model.specs.File.{File}
+use Rattle.disk_model.specs.Disk.{Disk, now}
 use Rattle.sql_value.specs.declared.refusal.Refusal.{Refusal}
-use Rattle.sql_value.specs.declared.refusal.Refusal.TheVariants.{NoSuchTable, TableExists, UnknownEngine, PluginInstalled, DuplicateEntry}
-use Rattle.row_format.specs.declared.schema.Schema.{Schema}
 use Rattle.row_format.specs.declared.change.Change.{Change}
-use Rattle.row_format.specs.declared.change.Change.TheVariants as change
-use Rattle.row_format.specs.Changes.{IsFitChange, AreFitChanges}
-use Rattle.row_format.specs.Rows.{row_refusal, first_of_two}
-use Rattle.row_format.specs.Schemas.{same_schema}
-use Rattle.row_format.proofs.SameLemmas.{same_schema_refl, same_schema-true}
-use Rattle.log_tables.specs.declared.gist.Prepared.{Prepared}
+use Rattle.log_tables.specs.declared.gist.Gist.{Gist}
+use Rattle.log_tables.specs.declared.table.Definition.{Definition}
 use Rattle.log_tables.specs.declared.table.Table.{Table}
-use Rattle.log_tables.specs.Tables.{table_named}
-use Rattle.dictionary.specs.Dictionary.{DictionaryState, definition_named}
-use Rattle.engine_api.specs.States.{EngineState, Pending, without_txn, changes_in}
-use Rattle.engine_api.specs.Live.{live_schema, schema_found, is_taken_in, meets_any, is_under, IsApart}
-use Rattle.plugd.specs.declared.command.Command.{Command}
-use Rattle.plugd.specs.declared.command.Command.TheVariants as command
+use Rattle.engine_api.specs.declared.flags.Flags.{Flags}
+use Rattle.engine_api.specs.declared.fault.EngineFault.{EngineFault}
+use Rattle.engine_api.specs.declared.fault.EngineFault.TheVariants as fault
+use Rattle.engine_api.specs.States.{Kind, EngineState, live_tables}
+use Rattle.engine_api.specs.Reads.{Reading}
+use Rattle.engine_api.specs.Calls.{IsSame, MayCome, Turns, IsDevice as IsDeviceThere, IsRefused as IsRefusedThere, GoesOn as EngineGoesOn}
+use Rattle.sql_effect.specs.declared.shape.EngineFacts.{EngineFacts}
+use Rattle.sql_exec.specs.declared.fault.ExecFault.{ExecFault}
+use Rattle.sql_exec.specs.declared.fault.ExecFault.TheVariants as exec
+use Rattle.sql_exec.specs.CarriesOut.{CarriesOut, IsDevice, IsRefused, GoesOn}
+use Rattle.sql_exec.specs.Changes.{with_changes}
+use Rattle.dictionary.specs.Dictionary.{DictionaryState}
+use Rattle.sql_step.specs.declared.outcome.Outcome.{Outcome}
+use Rattle.sql_step.specs.declared.outcome.Outcome.TheVariants.{Rows, Changed, Noted}
+use Rattle.sql_step.specs.Catalogs.{Catalog, catalog_of, facts_here}
+use Rattle.sql_step.specs.Outcomes.{changes_in, state_behind, IsLoggable}
+use Rattle.sql_step.specs.Steps.{CanStep, Refuses, IsTextAnswer, MayEnd}
+use Rattle.sql_step.proofs.CarryLemmas.{kept_by}
+use Rattle.plugd.specs.declared.reply.HaltCause.{HaltCause}
+use Rattle.plugd.specs.declared.reply.HaltCause.TheVariants.{Device, NotAVolume}
 use Rattle.plugd.specs.declared.statement.Executed.{Executed}
 use Rattle.plugd.specs.declared.statement.Executed.TheVariants as executed
-use Rattle.plugd.specs.Asked.{is_made, is_installed, engine_name, table_name, table_schema, row_of, refused_unless, full_unless_room, insert_refusal, refusal_of, after_command, create_refusal, table_refusal}
-use Rattle.plugd.specs.Noting.{HasCatalog}
-use Rattle.plugd.specs.Play.{Makes}
-use Rattle.plugd.specs.Serve.{session, Core, IsIdle}
-use Rattle.plugd.specs.Way.{Past, IsOnWay, IsBegun, CanLog, IsGranted, IsExecuted, Executes, EndsAt}
-use Rattle.plugd.proofs.StepLemmas.{by_err}
-use Rattle.plugd.proofs.WayLemmas.{ends_now}
-use Rattle.plugd.proofs.AskedLemmas.{granted_own, asked_few, asked_suits}
+use Rattle.plugd.specs.Asked.{Comes, engine_facts}
+use Rattle.plugd.specs.Noting.{AreSound}
+use Rattle.plugd.specs.Serve.{session, Core, IsIdle, IsJournal}
+use Rattle.plugd.specs.Way.{Past, IsOnWay, IsBegun, SomeOnWay, IsUntouched, IsExecuted, IsExecutedTo, Executes, HaltsBy, EndsAt}
+use Rattle.plugd.proofs.AheadLemmas.{core_of}
+use Rattle.plugd.proofs.AskedLemmas.{granted_now}
 use Rattle.plugd.proofs.CallsLemmas.{idle_is}
-use Rattle.plugd.proofs.NotedLemmas.{idle_live}
+use Rattle.plugd.proofs.SoundLemmas.{sound_schemas}
+use Rattle.plugd.proofs.StepLemmas.{Turned, turned_way, turned_halts, by_err}
+use Rattle.plugd.proofs.WayLemmas.{ends_now}
 
 -- what holds of each run with a statement on its way
 abbrev pub EachWay : Core → (Past → Type 0) → Type 0
 EachWay core P = (past : Past) → IsBegun past core → P past
 
--- a refusal, by which nothing was done
-abbrev pub RefusesBy : Command → Core → Core → Refusal → Past → Type 0
-RefusesBy asks old new refusal past = (refusal_of asks past.state.catalog ≡ Some refusal) × IsOnWay past old.engine.state past.state.given new × (new.engine.state ≡ old.engine.state) × HasCatalog new.server.dictionary past.state.catalog
+-- What is there, as the run tells it.
 
--- an execution, which makes these changes
-abbrev pub ExecutesBy : Command → Core → Core → List Change → Past → Type 0
-ExecutesBy asks old new changes past = IsExecuted past old.engine.state asks changes past.state.given new
+-- the engine's live tables are those of the catalog
+idle_live : (idle : EngineState) (past : Past) → IsIdle idle past.state → live_tables idle ≡ past.state.catalog.live
+idle_live idle past is = ap live_tables (idle_is idle past.state is) ∙ is.live
 
--- A command that is not refused makes changes that can be spelt and logged, where they are some and fit.
-pub granted_now : (past : Past) (asks : Command) (changes : List Change) → Makes asks past.state changes → refusal_of asks past.state.catalog ≡ None → AreFitChanges changes → IsGranted past asks changes
-granted_now past asks changes makes granted fit = record {
-  makes = makes;
-  granted = granted;
-  fit = fit;
-  few = subst (λ (l : List Change). length l < 2 ^ 31) (sym makes.all) (asked_few asks past.state.catalog);
-  can = subst (CanLog past.state.catalog asks) (sym makes.all) (record {
-    suits = λ kind is. asked_suits asks past.state.catalog kind is;
-    own = λ touches log is live. granted_own log past.state.catalog asks touches is live granted;
-  });
+same_catalog : (a b : Catalog) → a.definitions ≡ b.definitions → a.installed ≡ b.installed → a.live ≡ b.live → a ≡ b
+same_catalog a b definitions installed live =
+    ap (λ (l : List Definition). catalog_with l a.installed a.live) definitions ∙ ap (λ (l : List (List ℕ)). catalog_with b.definitions l a.live) installed
+    ∙ ap (catalog_with b.definitions b.installed) live
+  where
+    catalog_with : List Definition → List (List ℕ) → List Table → Catalog
+    catalog_with definitions installed live = record { definitions = definitions; installed = installed; live = live }
+
+catalog_is : (past : Past) (core : Core) → IsBegun past core → catalog_of core.server.dictionary core.engine.state ≡ past.state.catalog
+catalog_is past core begun =
+    same_catalog (catalog_of core.server.dictionary core.engine.state) past.state.catalog begun.catalog.definitions begun.catalog.installed (idle_live core.engine.state past begun.way.was_idle)
+
+same_facts : (a b : EngineFacts) → a.name ≡ b.name → a.soname ≡ b.soname → a.flags ≡ b.flags → a.keeps_rows ≡ b.keeps_rows → a ≡ b
+same_facts a b name soname flags keeps =
+    ap (λ (l : List ℕ). facts_with l a.soname a.flags a.keeps_rows) name ∙ ap (λ (l : List ℕ). facts_with b.name l a.flags a.keeps_rows) soname
+    ∙ ap (λ (f : Flags). facts_with b.name b.soname f a.keeps_rows) flags ∙ ap (facts_with b.name b.soname b.flags) keeps
+  where
+    facts_with : List ℕ → List ℕ → Flags → Bool → EngineFacts
+    facts_with name soname flags keeps = record { name = name; soname = soname; flags = flags; keeps_rows = keeps }
+
+facts_are : (kind : Kind) → IsJournal kind → facts_here kind ≡ engine_facts
+facts_are kind is = same_facts (facts_here kind) engine_facts is.name is.library is.flags refl
+
+-- The engine can carry out a text.
+pub some_can : (core : Core) → SomeOnWay core → CanStep core.server.dictionary core.engine.kind core.engine.reading core.engine.state core.engine.holds core.disk
+some_can core (past, begun) =
+    let way = begun.way in
+    let idle = way.was_idle in
+    record {
+      schemas = sound_schemas core.server.dictionary.definitions (subst (λ ds. AreSound ds) (sym begun.catalog.definitions) way.ahead.sound);
+      idle = record { nothing = idle.pending; unprepared = idle.none_prepared };
+      synced = idle.kept;
+      at_work = λ told. (way.rest (subst IsTrue way.ahead.stopped.secure.told told)).at_work;
+    }
+
+-- What it did to the engine, as one call.
+abbrev as_call : Result Outcome ExecFault → Result (Unit {0}) EngineFault
+as_call (Ok outcome) = Ok tt
+as_call (Err (exec.Refused refusal)) = Err fault.Memory
+as_call (Err exec.Device) = Err fault.Device
+as_call (Err (exec.NotAVolume file)) = Err (fault.NotAVolume file)
+as_call (Err exec.Memory) = Err fault.Memory
+
+as_device : (r : Result Outcome ExecFault) → IsDeviceThere (as_call r) → IsDevice r
+as_device (Ok outcome) is = absurd cc
+as_device (Err (exec.Refused refusal)) is = absurd cc
+as_device (Err exec.Device) is = refl
+as_device (Err (exec.NotAVolume file)) is = absurd cc
+as_device (Err exec.Memory) is = absurd cc
+
+as_refused : (r : Result Outcome ExecFault) → IsRefusedThere (as_call r) → IsRefused r
+as_refused (Ok outcome) is = absurd is
+as_refused (Err (exec.Refused refusal)) is = tt
+as_refused (Err exec.Device) is = absurd is
+as_refused (Err (exec.NotAVolume file)) is = tt
+as_refused (Err exec.Memory) is = tt
+
+as_goes : (r : Result Outcome ExecFault) → EngineGoesOn (as_call r) → GoesOn r
+as_goes (Ok outcome) is = tt
+as_goes (Err (exec.Refused refusal)) is = tt
+as_goes (Err exec.Device) is = absurd is
+as_goes (Err (exec.NotAVolume file)) is = tt
+as_goes (Err exec.Memory) is = tt
+
+as_ok : (r : Result Outcome ExecFault) (P : Type 0) → OnOk r P → OnOk (as_call r) P
+as_ok (Ok outcome) P is = is
+as_ok (Err (exec.Refused refusal)) P is = tt
+as_ok (Err exec.Device) P is = tt
+as_ok (Err (exec.NotAVolume file)) P is = tt
+as_ok (Err exec.Memory) P is = tt
+
+as_turns : (kind : Kind) (reading : Reading) (r : Result Outcome ExecFault) (next s new : EngineState) (holds : List File → Type 0) (a b : Disk) → CarriesOut kind reading r next s new holds a b
+    → Turns kind reading (as_call r) next s new holds a b
+as_turns kind reading r next s new holds a b carries = record {
+  ok = as_ok r (new ≡ next) carries.ok;
+  refused = λ is. carries.refused (as_refused r is);
+  cause = record { told = carries.cause.told; later = carries.cause.later; no_fewer = carries.cause.no_fewer; cause = λ is. carries.cause.cause (as_device r is) };
+  moments = carries.moments;
+  files = λ told goes. carries.files told (as_goes r goes);
 }
 
-pub executes_refused : (asks : Command) (old new : Core) (refusal : Refusal) → EachWay old (RefusesBy asks old new refusal) → Executes asks old new (Ok (executed.Refused refusal))
-executes_refused asks old new refusal each = record {
-  changed = λ past begun changes answer. cc;
-  refused = λ past begun r answer. let same : refusal ≡ r = cc in subst (λ (x : Refusal). RefusesBy asks old new x past) same (each past begun);
-  halted = λ past begun cause answer. cc;
-  err = λ past begun. tt;
-}
-
-pub executes_changed : (asks : Command) (old new : Core) (changes : List Change) → EachWay old (ExecutesBy asks old new changes) → Executes asks old new (Ok (executed.Changed changes))
-executes_changed asks old new changes each = record {
-  changed = λ past begun made answer. let same : changes ≡ made = cc in subst (λ (l : List Change). ExecutesBy asks old new l past) same (each past begun);
-  refused = λ past begun refusal answer. cc;
-  halted = λ past begun cause answer. cc;
-  err = λ past begun. tt;
-}
-
-pub executes_err : (r : Result Executed AllocError) → IsErr r → (asks : Command) (old new : Core) → EachWay old (λ past. EndsAt past new) → Executes asks old new r
-executes_err r is_err asks old new each =
-    by_err (λ (r : Result Executed AllocError). Executes asks old new r) (λ e. record {
-      changed = λ past begun changes answer. cc;
-      refused = λ past begun refusal answer. cc;
-      halted = λ past begun cause answer. cc;
-      err = λ past begun. each past begun;
-    }) r is_err
-
--- nothing was begun
-pub ends_unbegun : (old : Core) → EachWay old (λ past. EndsAt past old)
-ends_unbegun old past begun = ends_now past old begun.way.ahead
-
--- Whether the one table was made, and the one engine is installed, as the dictionary tells.
-pub record Finds (dictionary : DictionaryState) (made installed : Bool) : Type 0 where
-  pub made_is : made ≡ is_made dictionary.definitions
-  pub installed_is : installed ≡ is_installed dictionary.installed
-
--- so it was looked up
-pub finds : (dictionary : DictionaryState) (table engine : List ℕ) (made installed : Bool) → table ≡ table_name → engine ≡ engine_name
-    → made ≡ is_some (definition_named table dictionary.definitions) → installed ≡ list_any (bytes_eq engine) dictionary.installed → Finds dictionary made installed
-finds dictionary table engine made installed name same there on = record {
-  made_is = there ∙ ap (λ (n : List ℕ). is_some (definition_named n dictionary.definitions)) name;
-  installed_is = on ∙ ap (λ (n : List ℕ). list_any (bytes_eq n) dictionary.installed) same;
-}
-
--- the catalog has them so
-pub finds_here : (past : Past) (core : Core) (made installed : Bool) → Finds core.server.dictionary made installed → IsBegun past core
-    → (made ≡ is_made past.state.catalog.definitions) × (installed ≡ is_installed past.state.catalog.installed)
-finds_here past core made installed found begun = (found.made_is ∙ ap is_made begun.catalog.definitions, found.installed_is ∙ ap is_installed begun.catalog.installed)
-
--- the engine that was looked up is the one
-pub engine_is : (dictionary : DictionaryState) (engine : List ℕ) (there : Bool) → engine ≡ engine_name → list_any (bytes_eq engine) dictionary.installed ≡ there → is_installed dictionary.installed ≡ there
-engine_is dictionary engine there is on = ap (λ (n : List ℕ). list_any (bytes_eq n) dictionary.installed) (sym is) ∙ on
-
--- an INSTALL is refused
-pub install_refused : (old : Core) → is_installed old.server.dictionary.installed ≡ true → EachWay old (RefusesBy command.Install old old PluginInstalled)
-install_refused old there past begun =
-    (ap (λ (b : Bool). cond b (Some PluginInstalled) None) (sym (ap is_installed begun.catalog.installed) ∙ there), begun.way, refl, begun.catalog)
-
--- an INSTALL is executed
-pub install_executed : (old : Core) (changes : List Change) → is_installed old.server.dictionary.installed ≡ false → changes ≡ change.Install engine_name ∷ [] → IsFitChange (change.Install engine_name)
-    → EachWay old (ExecutesBy command.Install old old changes)
-install_executed old changes there all fit past begun = record {
+-- What carrying out a text leaves of the way.
+carried : (past : Past) (core : Core) (r : Result Outcome ExecFault) (after : EngineState) (kind : Kind) (reading : Reading) (holds : List File → Type 0) (disk : Disk) → IsBegun past core
+    → IsSame core.engine.kind kind core.engine.reading reading
+    → CarriesOut core.engine.kind core.engine.reading r (state_behind session r core.engine.state) core.engine.state after holds core.disk disk
+    → Turned past core.engine.state past.state.given core (as_call r) (state_behind session r core.engine.state) after kind reading holds disk core.engine.state.gist core.engine.state.gist
+carried past core r after kind reading holds disk begun same carries = record {
   way = begun.way;
-  catalog = begun.catalog;
-  granted = granted_now past command.Install changes (record { all = all; some = omega (arith, ap length all) }) (ap (λ (b : Bool). cond b (Some PluginInstalled) None) (sym (ap is_installed begun.catalog.installed) ∙ there))
-      (subst AreFitChanges (sym all) (fit, tt));
-  state = refl;
-}
-
--- an idle engine has nothing that meets a change
-pub idle_apart : (idle : EngineState) (past : Past) (it : Change) → IsIdle idle past.state → IsApart session it idle
-idle_apart idle past it is = record {
-  pending = ap (λ (l : List Pending). meets_any it (changes_in (without_txn session l))) is.pending;
-  prepared = ap (λ (l : List Prepared). list_any (λ p. meets_any it p.changes) l) is.none_prepared;
-}
-
--- nor is anything prepared in it by the session
-pub idle_unprepared : (idle : EngineState) (past : Past) → IsIdle idle past.state → is_under session idle ≡ false
-idle_unprepared idle past is = ap (is_under session) (idle_is idle past.state is)
-
-schema_is_there : (o : Option Table) → is_some (schema_found o) ≡ is_some o
-schema_is_there None = refl
-schema_is_there (Some x) = refl
-
--- the schema that the engine tells of the one table
-pub live_is : (old : Core) (past : Past) (table : List ℕ) (live : Option Schema) → table ≡ table_name → live ≡ live_schema table old.engine.state → IsIdle old.engine.state past.state
-    → live ≡ schema_found (table_named table_name past.state.catalog.live)
-live_is old past table live name is idle =
-    is ∙ ap (λ (n : List ℕ). live_schema n old.engine.state) name ∙ ap (λ (l : List Table). schema_found (table_named table_name l)) (idle_live old.engine.state past idle)
-
--- a CREATE is refused before the engine is asked: so it is by the rules
-create_refused_is : (made installed : Bool) (o : Option Table) (rest : Option Refusal) (r : Refusal) → create_refusal made installed (schema_found o) ≡ Some r
-    → cond (made || is_some o) (Some TableExists) (refused_unless installed UnknownEngine rest) ≡ Some r
-create_refused_is true installed o rest r is = is
-create_refused_is false installed (Some x) rest r is = is
-create_refused_is false false None rest r is = is
-create_refused_is false true None rest r is = cc
-
--- it is not: then the rest decides
-create_goes_on : (made installed : Bool) (o : Option Table) (rest : Option Refusal) → create_refusal made installed (schema_found o) ≡ None
-    → cond (made || is_some o) (Some TableExists) (refused_unless installed UnknownEngine rest) ≡ rest
-create_goes_on true installed o rest is = cc
-create_goes_on false installed (Some x) rest is = cc
-create_goes_on false false None rest is = cc
-create_goes_on false true None rest is = refl
-
-pub create_refused : (old : Core) (made installed : Bool) (table : List ℕ) (live : Option Schema) (r : Refusal) → Finds old.server.dictionary made installed → table ≡ table_name → live ≡ live_schema table old.engine.state → create_refusal made installed live ≡ Some r
-    → EachWay old (RefusesBy command.Create old old r)
-create_refused old made installed table live r found name is why past begun =
-    let c = past.state.catalog in
-    let o = table_named table_name c.live in
-    let same = live_is old past table live name is begun.way.was_idle in
-    let here = finds_here past old made installed found begun in
-    let why₂ : create_refusal (is_made c.definitions) (is_installed c.installed) (schema_found o) ≡ Some r =
-    ap (λ (b : Bool). create_refusal b (is_installed c.installed) (schema_found o)) (sym here.0)
-    ∙ ap (λ (b : Bool). create_refusal made b (schema_found o)) (sym here.1)
-    ∙ ap (λ (l : Option Schema). create_refusal made installed l) (sym same) ∙ why in
-    (create_refused_is (is_made c.definitions) (is_installed c.installed) o (full_unless_room (after_command command.Create c).live) r why₂, begun.way, refl, begun.catalog)
-
--- what decides of a CREATE that goes to the engine
-pub create_rest : (old : Core) (made installed : Bool) (table : List ℕ) (live : Option Schema) → Finds old.server.dictionary made installed → table ≡ table_name → live ≡ live_schema table old.engine.state → create_refusal made installed live ≡ None
-    → EachWay old (λ past. refusal_of command.Create past.state.catalog ≡ full_unless_room (after_command command.Create past.state.catalog).live)
-create_rest old made installed table live found name is why past begun =
-    let c = past.state.catalog in
-    let o = table_named table_name c.live in
-    let same = live_is old past table live name is begun.way.was_idle in
-    let here = finds_here past old made installed found begun in
-    let why₂ : create_refusal (is_made c.definitions) (is_installed c.installed) (schema_found o) ≡ None =
-    ap (λ (b : Bool). create_refusal b (is_installed c.installed) (schema_found o)) (sym here.0)
-    ∙ ap (λ (b : Bool). create_refusal made b (schema_found o)) (sym here.1)
-    ∙ ap (λ (l : Option Schema). create_refusal made installed l) (sym same) ∙ why in
-    create_goes_on (is_made c.definitions) (is_installed c.installed) o (full_unless_room (after_command command.Create c).live) why₂
-
--- and the table is not live
-pub create_free : (made installed : Bool) (live : Option Schema) → create_refusal made installed live ≡ None → live ≡ None
-create_free true installed live is = cc
-create_free false installed None is = refl
-create_free false installed (Some x) is = cc
-
--- what an INSERT that goes on to its row has found
-pub table_found : (made installed : Bool) (live : Option Schema) → table_refusal made installed live ≡ None → (made ≡ true) × (installed ≡ true) × (live ≡ Some table_schema)
-table_found false installed None is = cc
-table_found true false None is = cc
-table_found true true None is = cc
-table_found false installed (Some schema) is = cc
-table_found true false (Some schema) is = cc
-table_found true true (Some schema) is = go (same_schema schema table_schema) refl
-  where
-    go : (b : Bool) → same_schema schema table_schema ≡ b → (true ≡ true) × (true ≡ true) × (Some schema ≡ Some table_schema)
-    go true same = (refl, refl, ap Some (same_schema-true schema table_schema same))
-    go false same = let e = sym (ap (λ (b : Bool). refused_unless b NoSuchTable None) same) ∙ is in cc
-
--- an INSERT is refused whatever its row is: so it is by the rules
-table_refused_is : (made installed : Bool) (o : Option Table) (row : List Value) (after : List Table) (r : Refusal) → table_refusal made installed (schema_found o) ≡ Some r
-    → refused_unless made NoSuchTable (refused_unless installed UnknownEngine (insert_refusal o row after)) ≡ Some r
-table_refused_is false installed None row after r is = is
-table_refused_is false installed (Some x) row after r is = is
-table_refused_is true false None row after r is = is
-table_refused_is true false (Some x) row after r is = is
-table_refused_is true true None row after r is = is
-table_refused_is true true (Some x) row after r is = go (same_schema x.definition.schema table_schema) refl
-  where
-    rest : Option Refusal
-    rest = insert_refusal (Some x) row after
-
-    go : (b : Bool) → same_schema x.definition.schema table_schema ≡ b → insert_refusal (Some x) row after ≡ Some r
-    go true same = let e = sym (ap (λ (b : Bool). refused_unless b NoSuchTable None) same) ∙ is in cc
-    go false same =
-        ap (λ (b : Bool). refused_unless b NoSuchTable (first_of_two (row_refusal x.definition.schema row) (cond (is_taken_in (Some x) row) (Some DuplicateEntry) (full_unless_room after)))) same
-        ∙ sym (ap (λ (b : Bool). refused_unless b NoSuchTable None) same) ∙ is
-
--- it goes on: then its row decides
-pub record RowDecides (o : Option Table) (row : List Value) (after : List Table) (all : Option Refusal) : Type 0 where
-  pub table : Table
-  pub found : o ≡ Some table
-  pub schema : table.definition.schema ≡ table_schema
-  pub decides : all ≡ first_of_two (row_refusal table_schema row) (cond (is_taken_in (Some table) row) (Some DuplicateEntry) (full_unless_room after))
-
-row_decides : (made installed : Bool) (o : Option Table) (row : List Value) (after : List Table) → made ≡ true → installed ≡ true → schema_found o ≡ Some table_schema
-    → RowDecides o row after (refused_unless made NoSuchTable (refused_unless installed UnknownEngine (insert_refusal o row after)))
-row_decides made installed None row after m i is = cc
-row_decides made installed (Some x) row after m i is = record {
-  table = x;
-  found = refl;
-  schema = same;
-  decides =
-      ap (λ (b : Bool). refused_unless b NoSuchTable (refused_unless installed UnknownEngine (insert_refusal (Some x) row after))) m
-      ∙ ap (λ (b : Bool). refused_unless b UnknownEngine (insert_refusal (Some x) row after)) i
-      ∙ ap (λ (b : Bool). refused_unless b NoSuchTable (first_of_two (row_refusal x.definition.schema row) (cond (is_taken_in (Some x) row) (Some DuplicateEntry) (full_unless_room after))))
-      (subst (λ (s : Schema). same_schema s table_schema ≡ true) (sym same) (same_schema_refl table_schema))
-      ∙ ap (λ (s : Schema). first_of_two (row_refusal s row) (cond (is_taken_in (Some x) row) (Some DuplicateEntry) (full_unless_room after))) same;
+  same = same;
+  turns = as_turns core.engine.kind core.engine.reading r (state_behind session r core.engine.state) core.engine.state after holds core.disk disk carries;
+  had = begun.way.was_idle.kept;
+  gets = kept_behind r ∙ begun.way.was_idle.kept;
+  goes = λ told could. let is = ((begun.way.rest told).recovered could).recoverable in (is, is);
 }
   where
-    same : x.definition.schema ≡ table_schema
-    same = cc
+    kept_behind : (r : Result Outcome ExecFault) → (state_behind session r core.engine.state).kept ≡ core.engine.state.kept
+    kept_behind r = kept_by session (changes_in r) core.engine.state
 
--- an INSERT is refused before its row is looked at
-pub table_refused : (old : Core) (made installed : Bool) (key : ℤ) (text table : List ℕ) (live : Option Schema) (r : Refusal) → Finds old.server.dictionary made installed → table ≡ table_name → live ≡ live_schema table old.engine.state → table_refusal made installed live ≡ Some r
-    → EachWay old (RefusesBy (command.Insert key text) old old r)
-table_refused old made installed key text table live r found name is why past begun =
-    let c = past.state.catalog in
-    let o = table_named table_name c.live in
-    let same = live_is old past table live name is begun.way.was_idle in
-    let here = finds_here past old made installed found begun in
-    let why₂ : table_refusal (is_made c.definitions) (is_installed c.installed) (schema_found o) ≡ Some r =
-    ap (λ (b : Bool). table_refusal b (is_installed c.installed) (schema_found o)) (sym here.0)
-    ∙ ap (λ (b : Bool). table_refusal made b (schema_found o)) (sym here.1)
-    ∙ ap (λ (l : Option Schema). table_refusal made installed l) (sym same) ∙ why in
-    (table_refused_is (is_made c.definitions) (is_installed c.installed) o (row_of key text) (after_command (command.Insert key text) c).live r why₂, begun.way, refl, begun.catalog)
+-- it goes on
+carried_way : (past : Past) (core : Core) (r : Result Outcome ExecFault) (after : EngineState) (kind : Kind) (reading : Reading) (holds : List File → Type 0) (disk : Disk) → IsBegun past core
+    → IsSame core.engine.kind kind core.engine.reading reading
+    → CarriesOut core.engine.kind core.engine.reading r (state_behind session r core.engine.state) core.engine.state after holds core.disk disk → EngineGoesOn (as_call r)
+    → IsOnWay past core.engine.state past.state.given (core_of core.server kind reading after holds disk)
+carried_way past core r after kind reading holds disk begun same carries goes =
+    turned_way past core.engine.state past.state.given core (as_call r) (state_behind session r core.engine.state) after kind reading holds disk core.engine.state.gist core.engine.state.gist
+    (carried past core r after kind reading holds disk begun same carries) goes
 
--- what decides of one whose row is looked at
-pub insert_rest : (old : Core) (made installed : Bool) (key : ℤ) (text table : List ℕ) (live : Option Schema) → Finds old.server.dictionary made installed → table ≡ table_name → live ≡ live_schema table old.engine.state → table_refusal made installed live ≡ None
-    → EachWay old (λ past. RowDecides (table_named table_name past.state.catalog.live) (row_of key text) (after_command (command.Insert key text) past.state.catalog).live (refusal_of (command.Insert key text) past.state.catalog))
-insert_rest old made installed key text table live found name is why past begun =
-    let c = past.state.catalog in
-    let here = finds_here past old made installed found begun in
-    let there = table_found made installed live why in
-    row_decides (is_made c.definitions) (is_installed c.installed) (table_named table_name c.live) (row_of key text) (after_command (command.Insert key text) c).live
-    (sym here.0 ∙ there.0) (sym here.1 ∙ there.1) (sym (live_is old past table live name is begun.way.was_idle) ∙ there.2)
+-- what is answered of what the dictionary and the engine tell is answered of the catalog
+answers_here : (past : Past) (core : Core) (text files : List ℕ) (told : Bool) (r : Result Outcome ExecFault) → IsBegun past core
+    → IsTextAnswer (catalog_of core.server.dictionary core.engine.state) (facts_here core.engine.kind) files told text r → IsTextAnswer past.state.catalog engine_facts files told text r
+answers_here past core text files told r begun answer =
+    subst (λ (f : EngineFacts). IsTextAnswer past.state.catalog f files told text r) (facts_are core.engine.kind begun.way.ahead.fixed.kind)
+    (subst (λ (c : Catalog). IsTextAnswer c (facts_here core.engine.kind) files told text r) (catalog_is past core begun) answer)
+
+-- It came to something.
+pub executes_done : (text : List ℕ) (core : Core) (outcome : Outcome) (after : EngineState) (kind : Kind) (reading : Reading) (holds : List File → Type 0) (disk : Disk)
+    → IsSame core.engine.kind kind core.engine.reading reading
+    → CarriesOut core.engine.kind core.engine.reading (Ok outcome) (state_behind session (Ok outcome) core.engine.state) core.engine.state after holds core.disk disk
+    → IsTextAnswer (catalog_of core.server.dictionary core.engine.state) (facts_here core.engine.kind) core.engine.kind.files core.disk.told text (Ok outcome) → IsLoggable outcome
+    → Executes text core (core_of core.server kind reading after holds disk) (Ok (executed.Done outcome))
+executes_done text core outcome after kind reading holds disk same carries answer loggable = record {
+  done = λ past begun it is. let alike : outcome ≡ it = cc in subst (λ (o : Outcome). IsExecutedTo past core.engine.state text o (core_of core.server kind reading after holds disk)) alike (by past begun);
+  refused = λ past begun refusal is. cc;
+  halted = λ past begun cause is. cc;
+  err = λ past begun. tt;
+}
+  where
+    way : (past : Past) → IsBegun past core → IsOnWay past core.engine.state past.state.given (core_of core.server kind reading after holds disk)
+    way past begun = carried_way past core (Ok outcome) after kind reading holds disk begun same carries tt
+
+    comes : (past : Past) → IsBegun past core → Comes text past.state.catalog outcome
+    comes past begun = answers_here past core text core.engine.kind.files core.disk.told (Ok outcome) begun answer
+
+    by : (past : Past) → IsBegun past core → IsExecutedTo past core.engine.state text outcome (core_of core.server kind reading after holds disk)
+    by past begun = at outcome (comes past begun) loggable carries.ok
+      where
+        at : (o : Outcome) → Comes text past.state.catalog o → IsLoggable o → after ≡ state_behind session (Ok o) core.engine.state
+            → IsExecutedTo past core.engine.state text o (core_of core.server kind reading after holds disk)
+        at (Rows rows) is can state = (is, record { way = way past begun; catalog = begun.catalog; state = state })
+        at (Changed count changes) is can state = record { way = way past begun; catalog = begun.catalog; granted = granted_now past text (Changed count changes) is can; state = state }
+        at (Noted changes) is can state = record { way = way past begun; catalog = begun.catalog; granted = granted_now past text (Noted changes) is can; state = state }
+
+-- It is refused.
+refused_so : (text : List ℕ) (core : Core) (refusal : Refusal) (after : EngineState) (kind : Kind) (reading : Reading) (holds : List File → Type 0) (disk : Disk)
+    → IsSame core.engine.kind kind core.engine.reading reading
+    → CarriesOut {T = Outcome} core.engine.kind core.engine.reading (Err (exec.Refused refusal)) (state_behind session (Err (exec.Refused refusal)) core.engine.state) core.engine.state after holds core.disk disk
+    → IsTextAnswer (catalog_of core.server.dictionary core.engine.state) (facts_here core.engine.kind) core.engine.kind.files core.disk.told text (Err (exec.Refused refusal))
+    → Executes text core (core_of core.server kind reading after holds disk) (Ok (executed.Refused refusal))
+refused_so text core refusal after kind reading holds disk same carries answer = record {
+  done = λ past begun it is. cc;
+  refused = λ past begun it is.
+      let alike : refusal ≡ it = cc in
+      subst (λ (r : Refusal). Refuses past.state.catalog engine_facts text r × IsUntouched past core.engine.state (core_of core.server kind reading after holds disk)) alike (
+        answers_here past core text core.engine.kind.files core.disk.told (Err (exec.Refused refusal)) begun answer,
+        record { way = carried_way past core (Err (exec.Refused refusal)) after kind reading holds disk begun same carries tt; catalog = begun.catalog; state = carries.refused tt },
+      );
+  halted = λ past begun cause is. cc;
+  err = λ past begun. tt;
+}
+
+-- The device failed, or a file of the engine is none.
+may_come : (core : Core) (text : List ℕ) (file : ℕ) (files : List ℕ) (told : Bool) (catalog : Catalog) (facts : EngineFacts) → IsTextAnswer catalog facts files told text (Err (exec.NotAVolume file))
+    → MayCome [] files told (fault.NotAVolume file)
+may_come core text file [] told catalog facts may = absurd may
+may_come core text file (first ∷ files) told catalog facts may = may
+
+halts_by : (text : List ℕ) (core : Core) (cause : HaltCause) (new : Core) → EachWay core (λ past. HaltsBy past new cause) → Executes text core new (Ok (executed.Halted cause))
+halts_by text core cause new each = record {
+  done = λ past begun it is. cc;
+  refused = λ past begun refusal is. cc;
+  halted = λ past begun it is. let alike : cause ≡ it = cc in subst (λ (c : HaltCause). HaltsBy past new c) alike (each past begun);
+  err = λ past begun. tt;
+}
+
+device_so : (text : List ℕ) (core : Core) (after : EngineState) (kind : Kind) (reading : Reading) (holds : List File → Type 0) (disk : Disk)
+    → IsSame core.engine.kind kind core.engine.reading reading
+    → CarriesOut {T = Outcome} core.engine.kind core.engine.reading (Err exec.Device) (state_behind session (Err exec.Device) core.engine.state) core.engine.state after holds core.disk disk
+    → Executes text core (core_of core.server kind reading after holds disk) (Ok (executed.Halted Device))
+device_so text core after kind reading holds disk same carries =
+    halts_by text core Device (core_of core.server kind reading after holds disk) (λ past begun.
+    turned_halts past core.engine.state past.state.given core {T = Unit {0}} fault.Device [] Device (state_behind session (Err exec.Device) core.engine.state) after kind reading holds disk core.engine.state.gist core.engine.state.gist
+    (carried past core (Err exec.Device) after kind reading holds disk begun same carries) refl tt)
+
+none_so : (text : List ℕ) (core : Core) (file : ℕ) (after : EngineState) (kind : Kind) (reading : Reading) (holds : List File → Type 0) (disk : Disk)
+    → IsSame core.engine.kind kind core.engine.reading reading
+    → CarriesOut {T = Outcome} core.engine.kind core.engine.reading (Err (exec.NotAVolume file)) (state_behind session (Err (exec.NotAVolume file)) core.engine.state) core.engine.state after holds core.disk disk
+    → IsTextAnswer (catalog_of core.server.dictionary core.engine.state) (facts_here core.engine.kind) core.engine.kind.files core.disk.told text (Err (exec.NotAVolume file))
+    → Executes text core (core_of core.server kind reading after holds disk) (Ok (executed.Halted (NotAVolume file)))
+none_so text core file after kind reading holds disk same carries answer =
+    halts_by text core (NotAVolume file) (core_of core.server kind reading after holds disk) (λ past begun.
+    turned_halts past core.engine.state past.state.given core {T = Unit {0}} (fault.NotAVolume file) [] (NotAVolume file) (state_behind session (Err (exec.NotAVolume file)) core.engine.state) after kind reading holds disk
+    core.engine.state.gist core.engine.state.gist
+    (carried past core (Err (exec.NotAVolume file)) after kind reading holds disk begun same carries) refl
+    (may_come core text file core.engine.kind.files core.disk.told (catalog_of core.server.dictionary core.engine.state) (facts_here core.engine.kind) answer))
+
+-- There was no memory.
+ended_so : (text : List ℕ) (core : Core) (e : AllocError) (after : EngineState) (kind : Kind) (reading : Reading) (holds : List File → Type 0) (disk : Disk)
+    → IsSame core.engine.kind kind core.engine.reading reading
+    → CarriesOut {T = Outcome} core.engine.kind core.engine.reading (Err exec.Memory) (state_behind session (Err exec.Memory) core.engine.state) core.engine.state after holds core.disk disk
+    → Executes text core (core_of core.server kind reading after holds disk) (Err e)
+ended_so text core e after kind reading holds disk same carries = record {
+  done = λ past begun it is. cc;
+  refused = λ past begun refusal is. cc;
+  halted = λ past begun cause is. cc;
+  err = λ past begun. ends_now past (core_of core.server kind reading after holds disk) (carried_way past core (Err exec.Memory) after kind reading holds disk begun same carries tt).ahead;
+}
+
+-- The same of a fault that is one of these.
+
+abbrev Carried : Core → ExecFault → EngineState → (List File → Type 0) → Disk → Type 0
+Carried core f after holds disk = CarriesOut {T = Outcome} core.engine.kind core.engine.reading (Err f) (state_behind session (Err f) core.engine.state) core.engine.state after holds core.disk disk
+
+abbrev Answered : Core → List ℕ → ExecFault → Type 0
+Answered core text f = IsTextAnswer (catalog_of core.server.dictionary core.engine.state) (facts_here core.engine.kind) core.engine.kind.files core.disk.told text (Err f)
+
+pub executes_refused : (text : List ℕ) (core : Core) (found : ExecFault) (refusal : Refusal) (after : EngineState) (kind : Kind) (reading : Reading) (holds : List File → Type 0) (disk : Disk)
+    → found ≡ exec.Refused refusal → IsSame core.engine.kind kind core.engine.reading reading → Carried core found after holds disk → Answered core text found
+    → Executes text core (core_of core.server kind reading after holds disk) (Ok (executed.Refused refusal))
+executes_refused text core found refusal after kind reading holds disk is same carries answer =
+    refused_so text core refusal after kind reading holds disk same (subst (λ (f : ExecFault). Carried core f after holds disk) is carries) (subst (Answered core text) is answer)
+
+pub executes_device : (text : List ℕ) (core : Core) (found : ExecFault) (after : EngineState) (kind : Kind) (reading : Reading) (holds : List File → Type 0) (disk : Disk)
+    → found ≡ exec.Device → IsSame core.engine.kind kind core.engine.reading reading → Carried core found after holds disk
+    → Executes text core (core_of core.server kind reading after holds disk) (Ok (executed.Halted Device))
+executes_device text core found after kind reading holds disk is same carries =
+    device_so text core after kind reading holds disk same (subst (λ (f : ExecFault). Carried core f after holds disk) is carries)
+
+pub executes_none : (text : List ℕ) (core : Core) (found : ExecFault) (file : ℕ) (after : EngineState) (kind : Kind) (reading : Reading) (holds : List File → Type 0) (disk : Disk)
+    → found ≡ exec.NotAVolume file → IsSame core.engine.kind kind core.engine.reading reading → Carried core found after holds disk → Answered core text found
+    → Executes text core (core_of core.server kind reading after holds disk) (Ok (executed.Halted (NotAVolume file)))
+executes_none text core found file after kind reading holds disk is same carries answer =
+    none_so text core file after kind reading holds disk same (subst (λ (f : ExecFault). Carried core f after holds disk) is carries) (subst (Answered core text) is answer)
+
+pub executes_ended : (text : List ℕ) (core : Core) (found : ExecFault) (e : AllocError) (after : EngineState) (kind : Kind) (reading : Reading) (holds : List File → Type 0) (disk : Disk)
+    → found ≡ exec.Memory → IsSame core.engine.kind kind core.engine.reading reading → Carried core found after holds disk
+    → Executes text core (core_of core.server kind reading after holds disk) (Err e)
+executes_ended text core found e after kind reading holds disk is same carries =
+    ended_so text core e after kind reading holds disk same (subst (λ (f : ExecFault). Carried core f after holds disk) is carries)

@@ -23,14 +23,13 @@ use Rattle.engine_api.specs.Calls.{IsSame, IsDoneOrDevice, Turns}
 use Rattle.engine_api.proofs.ManyLemmas.{same_files}
 use Rattle.recovery_rules.specs.Recovery.{IsRecoverable}
 use Rattle.volume_rules.proofs.StepLemmas.{alone}
-use Rattle.plugd.specs.declared.command.Command.{Command}
 use Rattle.plugd.specs.declared.reply.Reply.{Reply}
 use Rattle.plugd.specs.declared.reply.Reply.TheVariants.{Done, Halted}
 use Rattle.plugd.specs.declared.reply.HaltCause.TheVariants.{Device}
 use Rattle.plugd.specs.declared.server.Server.{Server}
 use Rattle.plugd.specs.Serve.{session}
 use Rattle.plugd.specs.LogOne.{IsDurable, EachOne}
-use Rattle.plugd.specs.Asked.{catalog_after, count_of}
+use Rattle.plugd.specs.Asked.{Work, catalog_after, count_of}
 use Rattle.plugd.specs.Noting.{HasCatalog}
 use Rattle.plugd.specs.Play.{logged_size}
 use Rattle.plugd.specs.Serve.{Core, reader_of, shelf_of, Secure}
@@ -44,7 +43,7 @@ use Rattle.plugd.proofs.WayLemmas.{durable_called}
 use Rattle.plugd.proofs.UndoLemmas.{only_device}
 use Rattle.plugd.proofs.CallsLemmas.{turns_work}
 use Rattle.plugd.proofs.DoneLemmas.{so_far, share, fit_logged, fit_committed}
-use Rattle.plugd.proofs.EndLemmas.{IsDone, prepared_statement, prepared_is_state, ready_kept, committed_kept, ready_fit, logs_ready, halted_at_it, done_now}
+use Rattle.plugd.proofs.EndLemmas.{IsDone, prepared_is_state, ready_kept, committed_kept, ready_fit, logs_ready, halted_at_it, done_now}
 
 -- the server, with the log that it has now
 abbrev pub with_log : Binlog → Server → Server
@@ -95,7 +94,7 @@ one_len changes xid core bytes log disk len spelt one is =
     one.counts.1 ∙ ap (λ (l : List ℕ). core.server.log.len + length l) one.bytes_are ∙ spelt_size core.server.log xid changes core.server.spelling.items spelt ∙ ap (λ (n : ℕ). n + logged_size changes) is
 
 -- what the write and the sync did
-ready_logs : (past : Past) (idle : EngineState) (asks : Command) (changes : List Change) (xid : ℕ) (core : Core) (bytes : List ℕ) (result : Result Unit Failed) (log : Binlog) (disk : Disk)
+ready_logs : (past : Past) (idle : EngineState) (asks : Work) (changes : List Change) (xid : ℕ) (core : Core) (bytes : List ℕ) (result : Result Unit Failed) (log : Binlog) (disk : Disk)
     → IsReadyToLog past idle asks changes xid core → IsSpelt core changes xid → LogsOne core bytes result log disk → Logs past.base (so_far past) (of_changes xid changes) core (after_prepare (share xid changes) idle.gist) disk
 ready_logs past idle asks changes xid core bytes result log disk ready spelt one =
     logs_ready past idle asks changes xid core disk ready.touches ready (logged_on core bytes result log disk one)
@@ -110,21 +109,21 @@ pub rose_since : (past : Past) (core : Core) (disk : Disk) → IsAhead past core
 rose_since past core disk ahead rose = let less = ahead.stopped.secure.no_fewer in omega (arith, less, rose)
 
 -- the write or the sync failed
-failed_at_it : (asks : Command) (xid : ℕ) (core : Core) (bytes : List ℕ) (e : Failed) (log : Binlog) (disk : Disk) → LogsOne core bytes (Err e) log disk
-    → Finishes asks xid core (record { server = with_halt Device (with_log log core.server); engine = core.engine; disk = disk }) (Halted Device)
-failed_at_it asks xid core bytes e log disk one = record {
-  ok = λ past idle changes ready spelt noted room.
-      halted_at_it past asks changes xid core (logged_core log disk core) Device (prepared_statement asks ready.touches) ready.way.ahead ready.granted ready.next room refl refl refl refl
+failed_at_it : (rows xid : ℕ) (core : Core) (bytes : List ℕ) (e : Failed) (log : Binlog) (disk : Disk) → LogsOne core bytes (Err e) log disk
+    → Finishes rows xid core (record { server = with_halt Device (with_log log core.server); engine = core.engine; disk = disk }) (Halted Device)
+failed_at_it rows xid core bytes e log disk one = record {
+  ok = λ past idle asks changes counts ready spelt noted room.
+      halted_at_it past asks changes xid core (logged_core log disk core) Device ready.way.ahead ready.granted ready.next room refl refl refl refl
       (secure_one past (of_changes xid changes) core (after_prepare (share xid changes) idle.gist) log disk ready.way.ahead (ready_logs past idle asks changes xid core bytes (Err e) log disk ready spelt one))
       (rose_since past core disk ready.way.ahead (one.device.cause refl));
 }
 
 -- the engine can commit
-pub ready_under : (past : Past) (idle : EngineState) (asks : Command) (changes : List Change) (xid : ℕ) (core : Core) → IsReadyToLog past idle asks changes xid core → IsUnder session xid core.engine.state
+pub ready_under : (past : Past) (idle : EngineState) (asks : Work) (changes : List Change) (xid : ℕ) (core : Core) → IsReadyToLog past idle asks changes xid core → IsUnder session xid core.engine.state
 ready_under past idle asks changes xid core ready = ap (λ (s : EngineState). xid_by session s.pending) (prepared_is_state past idle asks changes xid core ready)
 
 -- and its last number is less than this one
-pub ready_later : (past : Past) (idle : EngineState) (asks : Command) (changes : List Change) (xid : ℕ) (core : Core) (number : ℕ) → IsReadyToLog past idle asks changes xid core → number ≡ flushed_of core.server.log + 1 → core.engine.state.gist.last < number
+pub ready_later : (past : Past) (idle : EngineState) (asks : Work) (changes : List Change) (xid : ℕ) (core : Core) (number : ℕ) → IsReadyToLog past idle asks changes xid core → number ≡ flushed_of core.server.log + 1 → core.engine.state.gist.last < number
 ready_later past idle asks changes xid core number ready is =
     let last : core.engine.state.gist.last ≡ idle.gist.last = ap (λ (s : EngineState). s.gist.last) (prepared_is_state past idle asks changes xid core ready) in
     let low = ready.way.was_idle.last in
@@ -138,7 +137,7 @@ logged_files past core t a disk logs told =
     same_files core.engine.kind.files (now disk) (now core.disk) (λ f here. (run.each disk.calls run.later (omega arith)).0 f (λ zero. logs.apart (subst (Contains core.engine.kind.files) zero here)))
 
 -- they are what it takes them for
-pub ready_holds : (past : Past) (idle : EngineState) (asks : Command) (changes : List Change) (xid : ℕ) (core : Core) (bytes : List ℕ) (result : Result Unit Failed) (log : Binlog) (disk : Disk)
+pub ready_holds : (past : Past) (idle : EngineState) (asks : Work) (changes : List Change) (xid : ℕ) (core : Core) (bytes : List ℕ) (result : Result Unit Failed) (log : Binlog) (disk : Disk)
     → IsReadyToLog past idle asks changes xid core → IsSpelt core changes xid → LogsOne core bytes result log disk → IsTrue disk.told → core.engine.holds (files_in core.engine.kind.files disk)
 ready_holds past idle asks changes xid core bytes result log disk ready spelt one told =
     let told₁ = subst IsTrue one.device.told told in
@@ -146,7 +145,7 @@ ready_holds past idle asks changes xid core bytes result log disk ready spelt on
     (ready.way.rest (subst IsTrue ready.way.ahead.stopped.secure.told told₁)).at_work.holds
 
 -- What the commit did to the disk.
-commit_called : (past : Past) (idle : EngineState) (asks : Command) (changes : List Change) (xid number : ℕ) (core : Core) (bytes : List ℕ) (log : Binlog) (disk : Disk)
+commit_called : (past : Past) (idle : EngineState) (asks : Work) (changes : List Change) (xid number : ℕ) (core : Core) (bytes : List ℕ) (log : Binlog) (disk : Disk)
     {T : Type 0} (result : Result T EngineFault) (after : EngineState) (kind : Kind) (reading : Reading) (holds : List File → Type 0) (disk₂ : Disk)
     → IsReadyToLog past idle asks changes xid core → IsSpelt core changes xid → LogsOne core bytes (Ok tt) log disk → number ≡ past.state.count + 1
     → IsSame core.engine.kind kind core.engine.reading reading
@@ -181,19 +180,19 @@ pub one_number : (past : Past) (idle : EngineState) (given : List ℕ) (core : C
 one_number past idle given core bytes log disk number way one is = is ∙ one.counts.0 ∙ ap (λ (n : ℕ). n + 1) way.count
 
 -- so is this core and this reply
-as_halted : (asks : Command) (xid : ℕ) (core : Core) (mid server : Server) (engine : Working) (disk : Disk) (reply : Reply) → server ≡ with_halt Device mid → reply ≡ Halted Device
-    → Finishes asks xid core (record { server = with_halt Device mid; engine = engine; disk = disk }) (Halted Device) → Finishes asks xid core (record { server = server; engine = engine; disk = disk }) reply
-as_halted asks xid core mid server engine disk reply server_is reply_is is =
-    subst (λ (r : Reply). Finishes asks xid core (record { server = server; engine = engine; disk = disk }) r) (sym reply_is)
-    (subst (λ (s : Server). Finishes asks xid core (record { server = s; engine = engine; disk = disk }) (Halted Device)) (sym server_is) is)
+as_halted : (rows xid : ℕ) (core : Core) (mid server : Server) (engine : Working) (disk : Disk) (reply : Reply) → server ≡ with_halt Device mid → reply ≡ Halted Device
+    → Finishes rows xid core (record { server = with_halt Device mid; engine = engine; disk = disk }) (Halted Device) → Finishes rows xid core (record { server = server; engine = engine; disk = disk }) reply
+as_halted rows xid core mid server engine disk reply server_is reply_is is =
+    subst (λ (r : Reply). Finishes rows xid core (record { server = server; engine = engine; disk = disk }) r) (sym reply_is)
+    (subst (λ (s : Server). Finishes rows xid core (record { server = s; engine = engine; disk = disk }) (Halted Device)) (sym server_is) is)
 
-pub finishes_failed : (asks : Command) (xid : ℕ) (core : Core) (bytes : List ℕ) (e : Failed) (log : Binlog) (disk : Disk) (server : Server) (reply : Reply) → LogsOne core bytes (Err e) log disk
-    → server ≡ with_halt Device (with_log log core.server) → reply ≡ Halted Device → Finishes asks xid core (record { server = server; engine = core.engine; disk = disk }) reply
-finishes_failed asks xid core bytes e log disk server reply one server_is reply_is =
-    as_halted asks xid core (with_log log core.server) server core.engine disk reply server_is reply_is (failed_at_it asks xid core bytes e log disk one)
+pub finishes_failed : (rows xid : ℕ) (core : Core) (bytes : List ℕ) (e : Failed) (log : Binlog) (disk : Disk) (server : Server) (reply : Reply) → LogsOne core bytes (Err e) log disk
+    → server ≡ with_halt Device (with_log log core.server) → reply ≡ Halted Device → Finishes rows xid core (record { server = server; engine = core.engine; disk = disk }) reply
+finishes_failed rows xid core bytes e log disk server reply one server_is reply_is =
+    as_halted rows xid core (with_log log core.server) server core.engine disk reply server_is reply_is (failed_at_it rows xid core bytes e log disk one)
 
 -- an image may have the transaction, behind the commit too
-secure_committed : (past : Past) (idle : EngineState) (asks : Command) (changes : List Change) (xid number : ℕ) (core : Core) (bytes : List ℕ) (log : Binlog) (disk : Disk)
+secure_committed : (past : Past) (idle : EngineState) (asks : Work) (changes : List Change) (xid number : ℕ) (core : Core) (bytes : List ℕ) (log : Binlog) (disk : Disk)
     {T : Type 0} (result : Result T EngineFault) (after : EngineState) (kind : Kind) (reading : Reading) (holds : List File → Type 0) (disk₂ : Disk)
     → IsReadyToLog past idle asks changes xid core → IsSpelt core changes xid → LogsOne core bytes (Ok tt) log disk → number ≡ past.state.count + 1
     → IsSame core.engine.kind kind core.engine.reading reading
@@ -207,43 +206,43 @@ secure_committed past idle asks changes xid number core bytes log disk result af
     (secure_one past (of_changes xid changes) core (after_prepare (share xid changes) idle.gist) log disk ready.way.ahead (ready_logs past idle asks changes xid core bytes (Ok tt) log disk ready spelt one)))
 
 -- the commit failed
-pub finishes_halted : (asks : Command) (xid number : ℕ) (core : Core) (bytes : List ℕ) (log : Binlog) (disk : Disk)
+pub finishes_halted : (rows xid number : ℕ) (core : Core) (bytes : List ℕ) (log : Binlog) (disk : Disk)
     {T : Type 0} (found : EngineFault) (after : EngineState) (kind : Kind) (reading : Reading) (holds : List File → Type 0) (disk₂ : Disk) (server : Server) (reply : Reply)
     → LogsOne core bytes (Ok tt) log disk → number ≡ flushed_of log
     → IsSame core.engine.kind kind core.engine.reading reading
     → Turns {T = T} core.engine.kind core.engine.reading (Err found) (committed_state session xid number core.engine.state) core.engine.state after holds disk disk₂
     → (IsTrue (is_under session core.engine.state) → IsDoneOrDevice {T = T} (Err found))
     → server ≡ with_halt Device (with_log log core.server) → reply ≡ Halted Device
-    → Finishes asks xid core (core_of server kind reading after holds disk₂) reply
-finishes_halted asks xid number core bytes log disk {T = T} found after kind reading holds disk₂ server reply one number_is same turns may server_is reply_is =
-    as_halted asks xid core (with_log log core.server) server (record { kind = kind; reading = reading; state = after; holds = holds }) disk₂ reply server_is reply_is (record {
-      ok = λ past idle changes ready spelt noted room.
+    → Finishes rows xid core (core_of server kind reading after holds disk₂) reply
+finishes_halted rows xid number core bytes log disk {T = T} found after kind reading holds disk₂ server reply one number_is same turns may server_is reply_is =
+    as_halted rows xid core (with_log log core.server) server (record { kind = kind; reading = reading; state = after; holds = holds }) disk₂ reply server_is reply_is (record {
+      ok = λ past idle asks changes counts ready spelt noted room.
           let count_is = one_number past idle (past.state.given ++ xid ∷ []) core bytes log disk number ready.way one number_is in
           let under = ap is_some (ready_under past idle asks changes xid core ready) in
           let rose = turns.cause.cause (ap (λ (f : EngineFault). Err f) (only_device T found (may under))) in
           let more = one.device.no_fewer in
-          halted_at_it past asks changes xid core (core_of (with_log log core.server) kind reading after holds disk₂) Device (prepared_statement asks ready.touches) ready.way.ahead ready.granted ready.next room refl refl refl same.kind
+          halted_at_it past asks changes xid core (core_of (with_log log core.server) kind reading after holds disk₂) Device ready.way.ahead ready.granted ready.next room refl refl refl same.kind
           (secure_committed past idle asks changes xid number core bytes log disk (Err found) after kind reading holds disk₂ ready spelt one count_is same turns)
           (rose_since past core disk₂ ready.way.ahead (omega (arith, rose, more)));
     })
 
 -- it is acknowledged
-pub finishes_done : (asks : Command) (xid number call : ℕ) (core : Core) (bytes : List ℕ) (log : Binlog) (disk : Disk)
+pub finishes_done : (rows xid number call : ℕ) (core : Core) (bytes : List ℕ) (log : Binlog) (disk : Disk)
     {T : Type 0} (value : T) (after : EngineState) (kind : Kind) (reading : Reading) (holds : List File → Type 0) (disk₂ : Disk) (server : Server) (reply : Reply)
     → LogsOne core bytes (Ok tt) log disk → number ≡ flushed_of log
     → IsSame core.engine.kind kind core.engine.reading reading
     → Turns {T = T} core.engine.kind core.engine.reading (Ok value) (committed_state session xid number core.engine.state) core.engine.state after holds disk disk₂
-    → call ≡ disk₂.calls → Acknowledges number call (with_log log core.server) server → reply ≡ Done (count_of asks) number
-    → Finishes asks xid core (core_of server kind reading after holds disk₂) reply
-finishes_done asks xid number call core bytes log disk {T = T} value after kind reading holds disk₂ server reply one number_is same turns call_is acks reply_is = record {
-  ok = λ past idle changes ready spelt noted room.
+    → call ≡ disk₂.calls → Acknowledges number call (with_log log core.server) server → reply ≡ Done rows number
+    → Finishes rows xid core (core_of server kind reading after holds disk₂) reply
+finishes_done rows xid number call core bytes log disk {T = T} value after kind reading holds disk₂ server reply one number_is same turns call_is acks reply_is = record {
+  ok = λ past idle asks changes counts ready spelt noted room.
       let count_is = one_number past idle (past.state.given ++ xid ∷ []) core bytes log disk number ready.way one number_is in
-      subst (λ (r : Reply). PlaysTo past asks r (core_of server kind reading after holds disk₂)) (sym (reply_is ∙ ap (λ (n : ℕ). Done (count_of asks) n) count_is))
-      (done_now past idle asks changes xid core (core_of server kind reading after holds disk₂) (done past idle changes ready spelt noted room count_is));
+      subst (λ (r : Reply). PlaysTo past asks.text r (core_of server kind reading after holds disk₂)) (sym (reply_is ∙ ap (λ (n : ℕ). Done n number) (sym counts) ∙ ap (λ (n : ℕ). Done (count_of asks) n) count_is))
+      (done_now past idle asks changes xid core (core_of server kind reading after holds disk₂) (done past idle asks changes ready spelt noted room count_is));
 }
   where
-    durable : (past : Past) (idle : EngineState) (changes : List Change) → IsReadyToLog past idle asks changes xid core → IsSpelt core changes xid → number ≡ past.state.count + 1 → IsTrue disk₂.told → IsDurable log (so_far past ++ of_changes xid changes ∷ []) disk₂
-    durable past idle changes ready spelt count_is told =
+    durable : (past : Past) (idle : EngineState) (asks : Work) (changes : List Change) → IsReadyToLog past idle asks changes xid core → IsSpelt core changes xid → number ≡ past.state.count + 1 → IsTrue disk₂.told → IsDurable log (so_far past ++ of_changes xid changes ∷ []) disk₂
+    durable past idle asks changes ready spelt count_is told =
         let told₁ = subst IsTrue turns.cause.told told in
         durable_called log (so_far past ++ of_changes xid changes ∷ []) disk disk₂
         (log_called past.base (so_far past ++ of_changes xid changes ∷ []) (logged_core log disk core) reading (after_prepare (share xid changes) idle.gist) (after_commit (share xid changes) number (after_prepare (share xid changes) idle.gist)) disk₂
@@ -255,15 +254,15 @@ finishes_done asks xid number call core bytes log disk {T = T} value after kind 
         acks.acks ∙ ap (λ (n : ℕ). core.server.acks.items ++ (record { number = n; call = call }) ∷ []) count_is
         ∙ ap (λ (n : ℕ). core.server.acks.items ++ (record { number = past.state.count + 1; call = n }) ∷ []) call_is
 
-    done : (past : Past) (idle : EngineState) (changes : List Change) → IsReadyToLog past idle asks changes xid core → IsSpelt core changes xid → IsNoted past core changes → past.state.len + logged_size changes ≤ past.base.limit → number ≡ past.state.count + 1
+    done : (past : Past) (idle : EngineState) (asks : Work) (changes : List Change) → IsReadyToLog past idle asks changes xid core → IsSpelt core changes xid → IsNoted past core changes → past.state.len + logged_size changes ≤ past.base.limit → number ≡ past.state.count + 1
         → IsDone past idle asks changes xid core (core_of server kind reading after holds disk₂)
-    done past idle changes ready spelt noted room count_is = record {
+    done past idle asks changes ready spelt noted room count_is = record {
       ready = ready;
       touches = ready.touches;
       room = room;
       secure = secure_acknowledged past.base (so_far past ++ of_changes xid changes ∷ []) (core_of (with_log log core.server) kind reading after holds disk₂) server (record { number = past.state.count + 1; call = disk₂.calls })
           (ack_is past count_is)
-          (λ told. let here = durable past idle changes ready spelt count_is told in (here.is_log.bytes, durable_holds log (so_far past ++ of_changes xid changes ∷ []) disk₂ here))
+          (λ told. let here = durable past idle asks changes ready spelt count_is told in (here.is_log.bytes, durable_holds log (so_far past ++ of_changes xid changes ∷ []) disk₂ here))
           (λ told.
           let first = subst IsTrue ready.way.ahead.stopped.secure.told (subst IsTrue one.device.told (subst IsTrue turns.cause.told told)) in
           let count = ready.way.ahead.stopped.count first in
@@ -276,7 +275,7 @@ finishes_done asks xid number call core bytes log disk {T = T} value after kind 
       work = λ told.
           subst (λ (k : Kind). IsAtWork (record { kind = k; reading = reading; state = after; holds = holds }) (now disk₂)) (sym same.kind)
           (turns_work core.engine.kind core.engine.reading reading (Ok value) (committed_state session xid number core.engine.state) core.engine.state after holds disk disk₂ same.reading turns tt (subst IsTrue turns.cause.told told));
-      durable = λ told. subst (λ (l : Binlog). IsDurable l (so_far past ++ of_changes xid changes ∷ []) disk₂) (sym acks.log) (durable past idle changes ready spelt count_is told);
+      durable = λ told. subst (λ (l : Binlog). IsDurable l (so_far past ++ of_changes xid changes ∷ []) disk₂) (sym acks.log) (durable past idle asks changes ready spelt count_is told);
       xids = acks.xids;
       acks = ack_is past count_is;
       noted = subst (λ (d : DictionaryState). HasCatalog d (catalog_after changes past.state.catalog)) (sym acks.dictionary) noted;

@@ -1,8 +1,10 @@
 -- What an opening has found goes on with the log: the xids, their numbers, and the dictionary.
 use Rattle.std.proofs.Common.{◌≡◌, ◌⊎◌, inl, inr, ℕ, zero, suc, List, [], ◌∷◌, ◌++◌, length, Some, None, Result, Ok, Err, OnOk, refl, sym, ◌∙◌, ap, subst, arith}
 use Rattle.std.specs.Prelude.{◌+◌, slice_get}
+use Rattle.std.proofs.lemmas.List.Elements.{All-push}
 use Rattle.row_format.specs.declared.change.Change.{Change}
 use Rattle.row_format.specs.declared.change.Transaction.{Transaction}
+use Rattle.row_format.specs.Changes.{AreFitChanges}
 use Rattle.dictionary.specs.Dictionary.{Tells, changes_of}
 use Rattle.xid_recovery.specs.Pairs.{ArePairsOf}
 use Rattle.plugd.specs.declared.found.Found.{Found}
@@ -65,10 +67,11 @@ pairs_go log t pairs number are next = record {
 }
 
 -- What was found in a log goes on with one transaction more.
-pub found_goes : (log : List Transaction) (t : Transaction) (old new : Found) (number : ℕ) → IsFound log old
+pub found_goes : (log : List Transaction) (t : Transaction) (old new : Found) (number : ℕ) → IsFound log old → AreFitChanges t.changes
     → Knows new.xids (xids_of log ++ t.xid ∷ []) → new.pairs.items ≡ old.pairs.items ++ (t.xid, number) ∷ []
     → number ≡ length old.pairs.items + 1 → Tells (changes_of log ++ t.changes) new.dictionary → IsFound (log ++ t ∷ []) new
-found_goes log t old new number is knows pairs next tells = record {
+found_goes log t old new number is fit knows pairs next tells = record {
+  fit = All-push (λ (it : Transaction). AreFitChanges it.changes) log t is.fit fit;
   knows = subst (λ (used : List ℕ). Knows new.xids used) (sym (xids_of-append log (t ∷ []))) knows;
   pairs = subst (λ (items : List (ℕ × ℕ)). ArePairsOf (log ++ t ∷ []) items) (sym pairs) (pairs_go log t old.pairs.items number is.pairs next);
   dictionary = subst (λ (cs : List Change). Tells cs new.dictionary) (sym (changes_of-push log t)) tells;

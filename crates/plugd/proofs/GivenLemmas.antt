@@ -48,6 +48,7 @@ ahead_like past core server like is = record {
     count = is.stopped.count;
     whole = is.stopped.whole;
   };
+  sound = is.sound;
   serves = like.halted ∙ is.serves;
   is_serving = is.is_serving;
   met = is.met;

@@ -1,5 +1,3 @@
-pub mod CommandLemmas
-pub mod NumberLemmas
 pub mod ReplyLemmas
 pub mod XidLemmas
 pub mod LogOneLemmas
@@ -13,6 +11,8 @@ pub mod BeginLemmas
 pub mod ShelfLemmas
 pub mod LawLemmas
 pub mod AheadLemmas
+pub mod TextLemmas
+pub mod SoundLemmas
 pub mod AskedLemmas
 pub mod ChangedLemmas
 pub mod LogLemmas
@@ -25,13 +25,11 @@ pub mod EndLemmas
 pub mod ExecuteLemmas
 pub mod FinishLemmas
 pub mod GivenLemmas
-pub mod NotedLemmas
 pub mod OpeningLemmas
 pub mod PlainLemmas
 pub mod PlayLemmas
 pub mod PrepareLemmas
 pub mod RefusedLemmas
-pub mod EngineLemmas
 pub mod NotingLemmas
 pub mod DictionaryLemmas
 pub mod FoundLemmas

@@ -1,7 +1,7 @@
 -- Lines, byte by byte.
-use Rattle.std.proofs.Common.{◌≡◌, ◌≢◌, ◌⊎◌, ⊎_elim, ℕ, ◌<◌, ◌≤◌, List, [], ◌∷◌, ◌++◌, length, take, refl, sym, ◌∙◌, ap, subst, arith, append_assoc, length-append}
+use Rattle.std.proofs.Common.{◌≡◌, ◌≢◌, ◌⊎◌, ⊎_elim, ℕ, zero, suc, ◌<◌, ◌≤◌, List, [], ◌∷◌, ◌++◌, length, take, refl, sym, ◌∙◌, ap, subst, arith, append_assoc, length-append}
 use Rattle.std.proofs.lemmas.List.{append-nil, take_all, take-append-le, length-take-le}
-use Rattle.plugd.specs.Lines.{HasNoFeed, AreLines, joined, Splits, closing, AreAll, AreFirst}
+use Rattle.plugd.specs.Lines.{HasNoFeed, AreLines, joined, Splits, front_of, closing, AreAll, AreFirst}
 
 pub no_feed_push : (rest : List ℕ) (byte : ℕ) → HasNoFeed rest → byte ≢ 10 → HasNoFeed (rest ++ byte ∷ [])
 no_feed_push [] byte is not = (not, tt)
@@ -40,26 +40,34 @@ splits_feed taken lines rest is = record {
 pub splits_few : (taken : List ℕ) (lines : List (List ℕ)) (rest : List ℕ) → Splits taken lines rest → length lines ≤ length taken
 splits_few taken lines rest is = let few = few_lines lines in let size = length-append (joined lines) rest in omega (arith, few, size, ap length is.spelt)
 
--- the first bytes that are kept
-pub front_short : (front rest : List ℕ) (byte : ℕ) → front ≡ take 80 rest → length front < 80 → front ++ byte ∷ [] ≡ take 80 (rest ++ byte ∷ [])
-front_short front rest byte is short =
-    let some : length rest < 80 = ⊎_elim (λ lt. lt) (λ ge. absurd (let size = length-take-le 80 rest ge in omega (arith, short, ap length is, size))) (split (length rest) 80) in
-    ap (λ (l : List ℕ). l ++ byte ∷ []) (is ∙ take_all 80 rest (omega (arith, some))) ∙ sym (take_all 80 (rest ++ byte ∷ []) (omega (arith, some, length-append rest (byte ∷ []))))
-  where
-    split : (a b : ℕ) → (a < b) ⊎ (b ≤ a)
-    split a b = grind arith
+-- The first bytes that are kept, as many as they are.
 
-pub front_full : (front rest : List ℕ) (byte : ℕ) → front ≡ take 80 rest → 80 ≤ length front → front ≡ take 80 (rest ++ byte ∷ [])
-front_full front rest byte is long =
-    let size : 80 ≤ length rest = ⊎_elim (λ lt. absurd (omega (arith, lt, long, ap length (is ∙ take_all 80 rest (omega (arith, lt)))))) (λ ge. ge) (split (length rest) 80) in
-    is ∙ sym (take-append-le 80 rest (byte ∷ []) size)
-  where
-    split : (a b : ℕ) → (a < b) ⊎ (b ≤ a)
-    split a b = grind arith
+split : (a b : ℕ) → (a < b) ⊎ (b ≤ a)
+split a b = grind arith
 
-pub take_none : (rest : List ℕ) → [] ≡ take 80 rest → rest ≡ []
-take_none [] is = refl
-take_none (x ∷ rest) is = let e = is in cc
+short_of : (n : ℕ) (front rest : List ℕ) (byte : ℕ) → front ≡ take n rest → length front < n → front ++ byte ∷ [] ≡ take n (rest ++ byte ∷ [])
+short_of n front rest byte is short =
+    let some : length rest < n = ⊎_elim (λ lt. lt) (λ ge. absurd (let size = length-take-le n rest ge in omega (arith, short, ap length is, size))) (split (length rest) n) in
+    ap (λ (l : List ℕ). l ++ byte ∷ []) (is ∙ take_all n rest (omega (arith, some))) ∙ sym (take_all n (rest ++ byte ∷ []) (omega (arith, some, length-append rest (byte ∷ []))))
+
+full_of : (n : ℕ) (front rest : List ℕ) (byte : ℕ) → front ≡ take n rest → n ≤ length front → front ≡ take n (rest ++ byte ∷ [])
+full_of n front rest byte is long =
+    let size : n ≤ length rest = ⊎_elim (λ lt. absurd (omega (arith, lt, long, ap length (is ∙ take_all n rest (omega (arith, lt)))))) (λ ge. ge) (split (length rest) n) in
+    is ∙ sym (take-append-le n rest (byte ∷ []) size)
+
+none_of : (n : ℕ) (rest : List ℕ) → 0 < n → [] ≡ take n rest → rest ≡ []
+none_of n [] some is = refl
+none_of zero (x ∷ rest) some is = absurd (omega (arith, some))
+none_of (suc n) (x ∷ rest) some is = let e = is in cc
+
+pub front_short : (front rest : List ℕ) (byte : ℕ) → front ≡ front_of rest → length front < 65542 → front ++ byte ∷ [] ≡ front_of (rest ++ byte ∷ [])
+front_short front rest byte = short_of 65542 front rest byte
+
+pub front_full : (front rest : List ℕ) (byte : ℕ) → front ≡ front_of rest → 65542 ≤ length front → front ≡ front_of (rest ++ byte ∷ [])
+front_full front rest byte = full_of 65542 front rest byte
+
+pub take_none : (rest : List ℕ) → [] ≡ front_of rest → rest ≡ []
+take_none rest = none_of 65542 rest (omega arith)
 
 -- bytes that end with a line feed have no open line
 no_feed_last : (xs : List ℕ) → HasNoFeed (xs ++ 10 ∷ []) → ⊥

@@ -8,7 +8,8 @@ use Rattle.log_tables.specs.Changes.{after_change, after_changes, installed_chan
 use Rattle.dictionary.specs.Dictionary.{DictionaryState, dictionary_change, definitions_of, bare_tables, Tells}
 use Rattle.dictionary.proofs.DefinitionLemmas.{definitions_change, definitions_of-after_change, definitions_of-bare_tables}
 use Rattle.dictionary.proofs.TellsLemmas.{Tells-push}
-use Rattle.plugd.specs.Asked.{Catalog, catalog_after}
+use Rattle.sql_step.specs.Catalogs.{Catalog}
+use Rattle.plugd.specs.Asked.{catalog_after}
 use Rattle.plugd.specs.Noting.{dictionary_after, HasCatalog}
 
 -- tables of the same definitions have the same definitions after changes

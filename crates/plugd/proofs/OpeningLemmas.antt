@@ -15,7 +15,8 @@ use Rattle.binlog_file.proofs.UniqueLemmas.{one_logged}
 use Rattle.log_tables.specs.declared.gist.Gist.{Gist}
 use Rattle.log_tables.specs.Tables.{part_of}
 use Rattle.log_tables.specs.Changes.{tables_after}
-use Rattle.dictionary.specs.Dictionary.{DictionaryState, Tells, changes_of}
+use Rattle.dictionary.specs.Dictionary.{DictionaryState, Tells, changes_of, definitions_of}
+use Rattle.dictionary.proofs.TellsLemmas.{after_changes-changes_of}
 use Rattle.engine_api.specs.States.{EngineState}
 use Rattle.engine_api.specs.Many.{Working}
 use Rattle.engine_api.specs.Reads.{Reading, SameReading, EachReads, AreAtStart, OnlyIn, files_in}
@@ -45,7 +46,9 @@ use Rattle.plugd.specs.Found.{IsFound}
 use Rattle.plugd.specs.LogOne.{IsDurable}
 use Rattle.plugd.specs.Open.{IsBase, Begins}
 use Rattle.plugd.specs.Play.{State}
+use Rattle.plugd.specs.Noting.{AreSound}
 use Rattle.plugd.proofs.DictionaryLemmas.{told_catalog}
+use Rattle.plugd.proofs.SoundLemmas.{sound_first}
 use Rattle.plugd.specs.Serve.{Base, Core, reader_of, shelf_of, IsJournal, IsIdle, IsAtRest, IsCatalogOf, Serving}
 use Rattle.plugd.proofs.AheadLemmas.{GoesOn}
 use Rattle.plugd.proofs.LogLemmas.{durable_holds}
@@ -238,6 +241,11 @@ catalog_first : (list : List Transaction) (server : Server) (state : EngineState
 catalog_first list server state log found limit new f =
     told_catalog list server.dictionary state.gist.tables (subst (λ (d : DictionaryState). Tells (changes_of list) d) (sym new.dictionary_is) f.dictionary)
 
+-- its definitions are sound
+sound_found : (list : List Transaction) (server : Server) (log : Binlog) (found : Found) (limit : ℕ) → IsNew limit log found server → IsFound list found → AreSound server.dictionary.definitions
+sound_found list server log found limit new f =
+    subst AreSound (sym (ap (λ (d : DictionaryState). d.definitions) new.dictionary_is ∙ f.dictionary.definitions ∙ ap definitions_of (after_changes-changes_of list []))) (sound_first list f.fit)
+
 -- what a place of a list has
 there : {X : Type 0} (xs : List X) (i : ℕ) → i < length xs → (x : X) × (slice_get xs i ≡ Some x)
 there [] i lt = absurd (omega (arith, lt))
@@ -314,6 +322,7 @@ opened_serving was reading state holds report start mid end none found log cut l
   };
   shows = record { line = new.lines; halted = new.halted; catalog = λ none_halted. record { definitions = refl; installed = refl }; count = λ none_halted. refl; len = λ none_halted. refl };
   met = λ none_halted. refl;
+  sound = sound_found o.given.list server log found limit new (o.given.given [] o.none_is);
   idle = λ none_halted. opened_idle was reading state holds report start mid end none found log cut limit server o b new;
   rest = λ told none_halted. rest_now told;
 }

@@ -1,5 +1,5 @@
 -- What one piece of the input does.
-use Rattle.std.proofs.Common.{◌≡◌, inl, inr, ℕ, ◌<◌, ◌≤◌, List, [], ◌∷◌, ◌++◌, length, take, Option, Some, Result, Ok, Err, OnOk, OnErr, IsErr, refl, sym, ◌∙◌, ap, subst, arith, append_assoc}
+use Rattle.std.proofs.Common.{◌≡◌, inl, inr, ℕ, ◌<◌, ◌≤◌, List, [], ◌∷◌, ◌++◌, length, Option, Some, Result, Ok, Err, OnOk, OnErr, IsErr, refl, sym, ◌∙◌, ap, subst, arith, append_assoc}
 use Rattle.std.specs.declared.vec.Vec.{Vec}
 use Rattle.std.specs.declared.alloc.Global.{Global}
 use Rattle.std.proofs.lemmas.List.{append-nil}
@@ -11,6 +11,7 @@ use Rattle.plugd.specs.declared.play.Ending.TheVariants.{SinkFailed, OutOfMemory
 use Rattle.plugd.specs.declared.session.Session.{Session}
 use Rattle.plugd.proofs.LineLemmas.{all_closed, all_ended, take_none, closing_some, first_ended}
 use Rattle.plugd.specs.Coordinator.{Telling, MayRest}
+use Rattle.plugd.specs.Lines.{front_of}
 use Rattle.plugd.specs.Serve.{Base}
 use Rattle.std.specs.declared.alloc.AllocError.{AllocError}
 use Rattle.plugd.specs.Session.{Standing, Starved, Takes}
@@ -123,7 +124,7 @@ closed {serves = serves} {rests = rests} ends old new result w some plays = reco
   where
     -- the line that is open is not empty
     open_some : {base : Base} {taken spoken : List ℕ} → (s : Standing serves base taken spoken old) → s.rest ≡ [] → ⊥
-    open_some s none = omega (arith, some, ap length (s.front ∙ ap (λ (l : List ℕ). take 80 l) none))
+    open_some s none = omega (arith, some, ap length (s.front ∙ ap front_of none))
 
 pub closed_none : {C : Type 0} {serves rests : Telling C} (ends : MayRest serves rests) (session : Session C) (held : Option (List ℕ)) (faults : ℕ) → length session.front.items ≡ 0
     → Closes serves rests session session (Ok tt) (wrote held faults held faults)

@@ -16,7 +16,7 @@ use Rattle.engine_api.specs.Reads.{Reading}
 use Rattle.engine_api.specs.Calls.{IsSame, IsRefused, MayCome, AnswersOnly, GoesOn as EngineGoesOn, Turns}
 use Rattle.engine_api.specs.declared.fault.Code.TheVariants.{Full}
 use Rattle.volume_rules.proofs.ListLemmas.{only_one}
-use Rattle.plugd.specs.declared.command.Command.{Command}
+use Rattle.plugd.specs.Asked.{Work}
 use Rattle.plugd.specs.declared.reply.HaltCause.{HaltCause}
 use Rattle.plugd.specs.Serve.{session}
 use Rattle.plugd.specs.declared.statement.Prepared.{Prepared}
@@ -31,25 +31,25 @@ use Rattle.plugd.proofs.DoneLemmas.{share, executed_is, executed_kept, prepared_
 use Rattle.plugd.proofs.StepLemmas.{Turned, turned_way, turned_halts, turned_ahead, by_err}
 
 -- the engine has the changes of this statement, and nothing else
-pub ready_is : (past : Past) (idle : EngineState) (asks : Command) (changes : List Change) (xid : ℕ) (core : Core) → IsToPrepare past idle asks changes xid core → core.engine.state ≡ changed_state session changes idle.gist
+pub ready_is : (past : Past) (idle : EngineState) (asks : Work) (changes : List Change) (xid : ℕ) (core : Core) → IsToPrepare past idle asks changes xid core → core.engine.state ≡ changed_state session changes idle.gist
 ready_is past idle asks changes xid core is = executed_is past idle asks changes (past.state.given ++ xid ∷ []) core is.touches is.executed
 
 -- nothing of it is prepared yet
-pub ready_unprepared : (past : Past) (idle : EngineState) (asks : Command) (changes : List Change) (xid : ℕ) (core : Core) → IsToPrepare past idle asks changes xid core → is_under session core.engine.state ≡ false
+pub ready_unprepared : (past : Past) (idle : EngineState) (asks : Work) (changes : List Change) (xid : ℕ) (core : Core) → IsToPrepare past idle asks changes xid core → is_under session core.engine.state ≡ false
 ready_unprepared past idle asks changes xid core is = ap (is_under session) (ready_is past idle asks changes xid core is)
 
 -- nor is anything under its xid
-pub ready_fresh : (past : Past) (idle : EngineState) (asks : Command) (changes : List Change) (xid : ℕ) (core : Core) → IsToPrepare past idle asks changes xid core → is_prepared xid core.engine.state.gist.prepared ≡ false
+pub ready_fresh : (past : Past) (idle : EngineState) (asks : Work) (changes : List Change) (xid : ℕ) (core : Core) → IsToPrepare past idle asks changes xid core → is_prepared xid core.engine.state.gist.prepared ≡ false
 ready_fresh past idle asks changes xid core is =
     ap (λ (s : EngineState). is_prepared xid s.gist.prepared) (ready_is past idle asks changes xid core is)
     ∙ ap (is_prepared xid) is.executed.way.was_idle.none_prepared
 
 -- JOURNAL can prepare
-pub journal_prepares : (past : Past) (idle : EngineState) (asks : Command) (changes : List Change) (xid : ℕ) (core : Core) → IsToPrepare past idle asks changes xid core → core.engine.kind.flags.transactional ≡ true
+pub journal_prepares : (past : Past) (idle : EngineState) (asks : Work) (changes : List Change) (xid : ℕ) (core : Core) → IsToPrepare past idle asks changes xid core → core.engine.kind.flags.transactional ≡ true
 journal_prepares past idle asks changes xid core is = ap (λ (f : Flags). f.transactional) is.executed.way.ahead.fixed.kind.flags
 
 -- what the prepare did
-pub prepare_turned : (past : Past) (idle : EngineState) (asks : Command) (changes : List Change) (xid : ℕ) (core : Core) {T : Type 0} (result : Result T EngineFault) (after : EngineState) (kind : Kind) (reading : Reading) (holds : List File → Type 0) (disk : Disk)
+pub prepare_turned : (past : Past) (idle : EngineState) (asks : Work) (changes : List Change) (xid : ℕ) (core : Core) {T : Type 0} (result : Result T EngineFault) (after : EngineState) (kind : Kind) (reading : Reading) (holds : List File → Type 0) (disk : Disk)
     → IsToPrepare past idle asks changes xid core → IsSame core.engine.kind kind core.engine.reading reading
     → Turns core.engine.kind core.engine.reading result (prepared_state session xid core.engine.state) core.engine.state after holds core.disk disk
     → Turned past idle (past.state.given ++ xid ∷ []) core result (prepared_state session xid core.engine.state) after kind reading holds disk idle.gist (after_prepare (share xid changes) idle.gist)

@@ -7,6 +7,7 @@ use Rattle.std.proofs.lemmas.Grind.{flat_map-append, take_at_read}
 use Rattle.plugd.specs.declared.reply.Reply.{Reply}
 use Rattle.plugd.specs.declared.session.Session.{Session}
 use Rattle.plugd.specs.Reply.{text_of}
+use Rattle.plugd.specs.Lines.{front_of}
 use Rattle.plugd.specs.Coordinator.{Telling, GoesOn}
 use Rattle.plugd.specs.Serve.{Base}
 use Rattle.plugd.specs.Session.{Standing, Starved, IsStanding, Takes}
@@ -91,7 +92,7 @@ starved_at base taken spoken old new s byte halts same = record {
 
 -- a byte of the open line
 pub byte_taken : {C : Type 0} {serves : Telling C} (base : Base) (taken spoken : List ℕ) (old new : Session C) (s : Standing serves base taken spoken old) (byte : ℕ) → byte ≢ 10
-    → serves new.core base s.lines s.replies → new.replies.items ≡ old.replies.items → new.front.items ≡ take 80 (s.rest ++ byte ∷ []) → Standing serves base (taken ++ byte ∷ []) spoken new
+    → serves new.core base s.lines s.replies → new.replies.items ≡ old.replies.items → new.front.items ≡ front_of (s.rest ++ byte ∷ []) → Standing serves base (taken ++ byte ∷ []) spoken new
 byte_taken base taken spoken old new s byte not serving same front = record {
   lines = s.lines;
   rest = s.rest ++ byte ∷ [];

@@ -16,25 +16,26 @@ use Rattle.engine_api.specs.Reads.{Reading}
 use Rattle.engine_api.specs.Calls.{IsSame, IsDoneOrDevice, Turns}
 use Rattle.recovery_rules.specs.Recovery.{IsRecoverable}
 use Rattle.volume_rules.proofs.StepLemmas.{alone, none_left}
-use Rattle.plugd.specs.declared.command.Command.{Command}
+use Rattle.plugd.specs.Asked.{Work, is_prepared_for}
 use Rattle.plugd.specs.declared.reply.Reply.{Reply}
 use Rattle.plugd.specs.declared.reply.Reply.TheVariants.{Refused, Halted}
 use Rattle.plugd.specs.declared.reply.HaltCause.TheVariants.{Device}
 use Rattle.plugd.specs.declared.server.Server.{Server}
 use Rattle.plugd.specs.Serve.{session}
-use Rattle.plugd.specs.Play.{IsNextGiven, IsPlayed, is_prepared_for, with_given, Turn, full, spent}
+use Rattle.plugd.specs.Play.{IsNextGiven, IsPlayed, with_given, Turn, full, spent}
 use Rattle.plugd.specs.Serve.{Core, rules_of, reader_of, shelf_of, CouldRecover, IsIdle, IsAtRest}
 use Rattle.plugd.specs.Spell.{with_halt}
 use Rattle.plugd.specs.Way.{Past, IsOnWay, IsGranted, IsToUndo, IsReason, Undoes}
 use Rattle.plugd.proofs.AheadLemmas.{core_of}
 use Rattle.plugd.proofs.WayLemmas.{halted_now, refused_now}
 use Rattle.plugd.proofs.DoneLemmas.{so_far, share, executed_kept, fit_prepared}
-use Rattle.plugd.proofs.EndLemmas.{prepared_is_state, prepared_statement, ready_kept, ready_fit}
+use Rattle.plugd.proofs.EndLemmas.{prepared_is_state, ready_kept, ready_fit}
 use Rattle.plugd.proofs.StepLemmas.{Turned, turned_way, turned_halts}
 use Rattle.plugd.proofs.PrepareLemmas.{ready_is}
+use Rattle.plugd.proofs.TextLemmas.{given_comes}
 
 -- A statement that is to be taken back: what the engine has of it, prepared or not, and what is left behind a rollback.
-pub record IsUndone (past : Past) (idle : EngineState) (asks : Command) (changes : List Change) (xid : ℕ) (core : Core) : Type 0 where
+pub record IsUndone (past : Past) (idle : EngineState) (asks : Work) (changes : List Change) (xid : ℕ) (core : Core) : Type 0 where
   pub way : IsOnWay past idle (past.state.given ++ xid ∷ []) core
   pub granted : IsGranted past asks changes
   pub next : IsNextGiven (rules_of past.base) past.state xid
@@ -47,7 +48,7 @@ pub record IsUndone (past : Past) (idle : EngineState) (asks : Command) (changes
 rolled_gist : (xid : ℕ) (changes : List Change) (gist : Gist) → gist.prepared ≡ [] → after_rollback xid (after_prepare (share xid changes) gist) ≡ gist
 rolled_gist xid changes gist none = ap (λ (l : List Share). record { tables = gist.tables; prepared = l; last = gist.last }) (none_left xid gist (share xid changes) none refl ∙ sym none)
 
-undone : (past : Past) (idle : EngineState) (asks : Command) (changes : List Change) (xid : ℕ) (core : Core) → is_prepared_for asks ≡ true → IsToUndo past idle asks changes xid core → IsUndone past idle asks changes xid core
+undone : (past : Past) (idle : EngineState) (asks : Work) (changes : List Change) (xid : ℕ) (core : Core) → is_prepared_for asks ≡ true → IsToUndo past idle asks changes xid core → IsUndone past idle asks changes xid core
 undone past idle asks changes xid core touches (inl is) = record {
   way = is.executed.way;
   granted = is.executed.granted;
@@ -68,7 +69,7 @@ undone past idle asks changes xid core touches (inr is) = record {
 }
 
 -- what the rollback did
-undo_turned : (past : Past) (idle : EngineState) (asks : Command) (changes : List Change) (xid : ℕ) (core : Core) {T : Type 0} (result : Result T EngineFault) (after : EngineState) (kind : Kind) (reading : Reading) (holds : List File → Type 0) (disk : Disk)
+undo_turned : (past : Past) (idle : EngineState) (asks : Work) (changes : List Change) (xid : ℕ) (core : Core) {T : Type 0} (result : Result T EngineFault) (after : EngineState) (kind : Kind) (reading : Reading) (holds : List File → Type 0) (disk : Disk)
     → (is : IsUndone past idle asks changes xid core) → IsSame core.engine.kind kind core.engine.reading reading
     → Turns core.engine.kind core.engine.reading result (rolled_back_state session core.engine.state) core.engine.state after holds core.disk disk
     → Turned past idle (past.state.given ++ xid ∷ []) core result (rolled_back_state session core.engine.state) after kind reading holds disk is.gist idle.gist
@@ -82,12 +83,12 @@ undo_turned past idle asks changes xid core result after kind reading holds disk
 }
 
 -- the line is refused for this reason
-turn_of : (past : Past) (asks : Command) (changes : List Change) (xid : ℕ) (reason : Refusal) (line : List ℕ) → is_prepared_for asks ≡ true → IsGranted past asks changes → IsNextGiven (rules_of past.base) past.state xid
-    → IsReason past changes reason → IsPlayed line asks past.state → Turn (rules_of past.base) line past.state (Refused reason ∷ []) (with_given (past.state.given ++ xid ∷ []) past.state)
+turn_of : (past : Past) (asks : Work) (changes : List Change) (xid : ℕ) (reason : Refusal) (line : List ℕ) → is_prepared_for asks ≡ true → IsGranted past asks changes → IsNextGiven (rules_of past.base) past.state xid
+    → IsReason past changes reason → IsPlayed line asks.text past.state → Turn (rules_of past.base) line past.state (Refused reason ∷ []) (with_given (past.state.given ++ xid ∷ []) past.state)
 turn_of past asks changes xid refusal.TableFull line touches granted next why played =
-    full asks played granted.granted touches xid next refl refl
+    full asks played changes granted.makes touches xid next refl refl
 turn_of past asks changes xid refusal.LogSpent line touches granted next why played =
-    spent asks played granted.granted changes granted.makes xid next why refl refl
+    spent asks played changes granted.makes xid next why refl refl
 turn_of past asks changes xid reason line touches granted next why played = absurd why
 
 -- it is rolled back
@@ -96,7 +97,7 @@ pub undoes_ok : (reason : Refusal) (core : Core) {T : Type 0} (value : T) (after
     → Turns {T = T} core.engine.kind core.engine.reading (Ok value) (rolled_back_state session core.engine.state) core.engine.state after holds core.disk disk
     → Undoes reason core (core_of core.server kind reading after holds disk) (Refused reason)
 undoes_ok reason core value after kind reading holds disk same turns = record {
-  ok = λ past idle asks changes xid touches is catalog why line asks_so.
+  ok = λ past idle asks changes xid touches is catalog why line gives.
       let u = undone past idle asks changes xid core touches is in
       let way = turned_way past idle (past.state.given ++ xid ∷ []) core (Ok value) (rolled_back_state session core.engine.state) after kind reading holds disk u.gist idle.gist
       (undo_turned past idle asks changes xid core (Ok value) after kind reading holds disk u same turns) tt in
@@ -106,7 +107,7 @@ undoes_ok reason core value after kind reading holds disk same turns = record {
       (subst (λ (s : EngineState). IsIdle s past.state) (sym now_is) (record { pending = refl; kept = refl; none_prepared = i.none_prepared; live = i.live; last = i.last }))
       (λ x on. Contains-append_left past.state.given (xid ∷ []) x on)
       (λ told. subst (λ (g : Gist). IsAtRest past.base (core_of core.server kind reading after holds disk) g past.state (past.state.given ++ xid ∷ [])) (sym (ap (λ (s : EngineState). s.gist) now_is)) (way.rest told))
-      (turn_of past asks changes xid reason line touches u.granted u.next why (record { asks_so = asks_so; statement = prepared_statement asks touches; serves = way.ahead.is_serving }));
+      (turn_of past asks changes xid reason line touches u.granted u.next why (record { gives = given_comes asks.text line past.state.catalog asks.outcome gives u.granted.makes.comes; serves = way.ahead.is_serving }));
 }
 
 -- a rollback fails only by the device
@@ -128,7 +129,7 @@ undoes_halted reason core {T = T} found after kind reading holds disk server rep
       ok = λ past idle asks changes xid touches is catalog why.
           let u = undone past idle asks changes xid core touches is in
           let device : found ≡ fault.Device = only_device T found may in
-          halted_now past (core_of core.server kind reading after holds disk) Device asks (prepared_statement asks touches)
+          halted_now past (core_of core.server kind reading after holds disk) Device asks.text
           (turned_halts past idle (past.state.given ++ xid ∷ []) core {T = T} fault.Device [] Device (rolled_back_state session core.engine.state) after kind reading holds disk u.gist idle.gist
           (subst (λ (f : EngineFault). Turned {T = T} past idle (past.state.given ++ xid ∷ []) core (Err f) (rolled_back_state session core.engine.state) after kind reading holds disk u.gist idle.gist) device
           (undo_turned past idle asks changes xid core {T = T} (Err found) after kind reading holds disk u same turns)) refl tt);

@@ -14,16 +14,16 @@ use Rattle.volume_rules.proofs.SameLemmas.{same_back, volume_same}
 use Rattle.plugd.specs.LogOne.{IsDurable}
 use Rattle.plugd.proofs.AheadLemmas.{Called, core_of, stopped_called, log_called}
 use Rattle.engine_api.specs.States.{EngineState}
-use Rattle.plugd.specs.declared.command.Command.{Command}
 use Rattle.plugd.specs.declared.reply.Reply.{Reply}
-use Rattle.plugd.specs.declared.reply.Reply.TheVariants.{Done, Refused, Halted, BadLine}
+use Rattle.plugd.specs.declared.reply.Reply.TheVariants.{Done, Rows, Refused, Halted, BadLine}
 use Rattle.plugd.specs.declared.reply.HaltCause.{HaltCause}
 use Rattle.plugd.specs.Crash.{all_of}
 use Rattle.plugd.specs.Noting.{HasCatalog}
-use Rattle.plugd.specs.Play.{Rules, State, Turn, Plays, numbers_of, with_given, halted_at, IsStatement, fails}
+use Rattle.plugd.specs.Play.{Rules, State, Turn, Plays, numbers_of, with_given, halted_at, fails}
 use Rattle.plugd.specs.Serve.{Core, rules_of, shelf_of, IsCause, Secure, IsIdle, IsAtRest, Serving}
 use Rattle.plugd.specs.Spell.{with_halt}
 use Rattle.plugd.specs.Way.{Past, IsAhead, IsOnWay, HaltsBy, PlaysTo, EndsAt}
+use Rattle.plugd.proofs.TextLemmas.{some_text}
 
 -- one line more
 pub plays_push : (rules : Rules) (before : State) (lines : List (List ℕ)) (replies : List Reply) (state : State) (line : List ℕ) (more : List Reply) (after : State)
@@ -36,6 +36,7 @@ plays_push rules before (x ∷ xs) replies state line more after is turn =
 pub numbers-append : (xs ys : List Reply) → numbers_of (xs ++ ys) ≡ numbers_of xs ++ numbers_of ys
 numbers-append [] ys = refl
 numbers-append (Done count number ∷ xs) ys = ap (λ (l : List ℕ). number ∷ l) (numbers-append xs ys)
+numbers-append (Rows rows ∷ xs) ys = numbers-append xs ys
 numbers-append (Refused refusal ∷ xs) ys = numbers-append xs ys
 numbers-append (Halted cause ∷ xs) ys = numbers-append xs ys
 numbers-append (BadLine line ∷ xs) ys = numbers-append xs ys
@@ -51,9 +52,9 @@ no_none : {X : Type 0} {x : X} → Some x ≡ None → ⊥
 no_none e = cc
 
 -- The line ends with a halt before anything was logged.
-pub halted_now : (past : Past) (core : Core) (cause : HaltCause) (asks : Command) → IsStatement asks → HaltsBy past core cause
-    → PlaysTo past asks (Halted cause) (record { server = with_halt cause core.server; engine = core.engine; disk = core.disk })
-halted_now past core cause asks statement by line asks_so = record {
+pub halted_now : (past : Past) (core : Core) (cause : HaltCause) (text : List ℕ) → HaltsBy past core cause
+    → PlaysTo past text (Halted cause) (record { server = with_halt cause core.server; engine = core.engine; disk = core.disk })
+halted_now past core cause text by line gives = record {
   state = after;
   fixed = record { kind = ahead.fixed.kind; limit = ahead.fixed.limit; small = ahead.fixed.small };
   line = omega (arith, ahead.line, length-append past.lines (line ∷ []));
@@ -68,7 +69,7 @@ halted_now past core cause asks statement by line asks_so = record {
       opened = secure.opened;
     };
     plays = plays_push (rules_of past.base) past.base.first past.lines past.replies past.state line (Halted cause ∷ []) after ahead.stopped.plays
-        (fails asks (record { asks_so = asks_so; statement = statement; serves = ahead.is_serving }) cause refl refl);
+        (fails (some_text text line gives).0 (record { gives = (some_text text line gives).1; serves = ahead.is_serving }) cause refl refl);
     numbers = numbers_same past.replies (Halted cause ∷ []) _ refl ahead.stopped.numbers;
     cause = λ it some. subst (IsCause past.base core.engine.kind core.disk) (some_same some) by.is_cause;
     count = ahead.stopped.count;
@@ -82,6 +83,7 @@ halted_now past core cause asks statement by line asks_so = record {
     len = λ none. absurd (no_none none);
   };
   met = λ none. absurd (no_none none);
+  sound = ahead.sound;
   idle = λ none. absurd (no_none none);
   rest = λ told none. absurd (no_none none);
 }
@@ -129,6 +131,7 @@ refused_now past was given core reply line way catalog none idle more rest turn 
     len = λ none. way.len;
   };
   met = λ none. ahead.met;
+  sound = ahead.sound;
   idle = λ none. record { pending = idle.pending; kept = idle.kept; none_prepared = idle.none_prepared; live = idle.live; last = idle.last };
   rest = λ told none. let r = rest told in record { durable = r.durable; knows = r.knows; asked_given = λ xid on. more xid (r.asked_given xid on); catalog = r.catalog; at_work = r.at_work; recovered = r.recovered };
 }
@@ -154,6 +157,7 @@ on_way_called past was given core a b reading after holds disk way called work =
     line = ahead.line;
     counted = ahead.counted;
     stopped = stopped_called past.base past.lines past.replies past.state (past.base.found ++ past.state.asked) core a b core.server reading after holds disk refl called ahead.stopped;
+    sound = ahead.sound;
     serves = ahead.serves;
     is_serving = ahead.is_serving;
     met = ahead.met;
@@ -187,6 +191,7 @@ halts_called past was given core a b reading after holds disk cause way called i
     line = ahead.line;
     counted = ahead.counted;
     stopped = stopped_called past.base past.lines past.replies past.state (past.base.found ++ past.state.asked) core a b core.server reading after holds disk refl called ahead.stopped;
+    sound = ahead.sound;
     serves = ahead.serves;
     is_serving = ahead.is_serving;
     met = ahead.met;

@@ -1,11 +1,9 @@
 pub mod DirStorage
-pub mod Command
-pub mod Line
 pub mod Reply
 pub mod Xids
 pub mod Lines
 pub mod Asked
-pub mod Changed
+pub mod Texts
 pub mod Noting
 pub mod Play
 pub mod Spell

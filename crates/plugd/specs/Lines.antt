@@ -1,5 +1,5 @@
 -- The lines of the input. (This project.)
-use Rattle.std.specs.Prelude.{◌≡◌, ◌≢◌, ℕ, List, [], ◌∷◌, ◌++◌}
+use Rattle.std.specs.Prelude.{◌≡◌, ◌≢◌, ℕ, List, [], ◌∷◌, ◌++◌, take}
 
 -- no line feed stands in these bytes
 abbrev pub HasNoFeed : List ℕ → Type 0
@@ -21,6 +21,10 @@ pub record Splits (bytes : List ℕ) (lines : List (List ℕ)) (rest : List ℕ)
   pub spelt : bytes ≡ joined lines ++ rest
   pub lines_are : AreLines lines
   pub is_open : HasNoFeed rest
+
+-- the first bytes of a line, as many as decide what it asks for
+abbrev pub front_of : List ℕ → List ℕ
+front_of line = take 65542 line
 
 -- what ends a line that the input's end leaves open: a carriage return and a line feed, so that one that stands there counts
 abbrev pub closing : List ℕ → List ℕ

@@ -3,16 +3,19 @@ use Rattle.std.specs.Prelude.{◌≡◌, ◌<◌, ◌≤◌, ◌+◌, ℕ, List,
 use Rattle.frame_codec.specs.Frame.{size_of}
 use Rattle.sql_value.specs.declared.refusal.Refusal.{Refusal}
 use Rattle.sql_value.specs.declared.refusal.Refusal.TheVariants.{TableFull, LogSpent}
+use Rattle.sql_value.specs.declared.value.Value.{Value}
 use Rattle.row_format.specs.declared.change.Change.{Change}
 use Rattle.row_format.specs.declared.change.Transaction.{Transaction}
 use Rattle.binlog_events.specs.Transaction.{events_of}
-use Rattle.plugd.specs.declared.command.Command.{Command}
-use Rattle.plugd.specs.declared.command.Command.TheVariants as command
+use Rattle.schedule_text.specs.Lines.{settle, IsLine}
+use Rattle.sql_step.specs.declared.outcome.Outcome.TheVariants as outcome
+use Rattle.sql_step.specs.Catalogs.{Catalog}
+use Rattle.sql_step.specs.Steps.{Refuses}
 use Rattle.plugd.specs.declared.reply.Reply.{Reply}
 use Rattle.plugd.specs.declared.reply.HaltCause.{HaltCause}
-use Rattle.plugd.specs.declared.reply.Reply.TheVariants.{Done, Refused, Halted, BadLine}
-use Rattle.plugd.specs.Command.{IsCommand}
-use Rattle.plugd.specs.Asked.{Catalog, changes_by, after_command, refusal_of, count_of}
+use Rattle.plugd.specs.declared.reply.Reply.TheVariants.{Done, Rows, Refused, Halted, BadLine}
+use Rattle.plugd.specs.Texts.{Gives, IsUnknown}
+use Rattle.plugd.specs.Asked.{Work, Comes, catalog_after, changes_by, count_of, engine_facts, is_prepared_for}
 use Rattle.plugd.specs.Xids.{IsNextXid}
 
 -- what a run keeps to: how long the log may get, whether contents are told, and the xids that the opening found
@@ -50,8 +53,8 @@ abbrev pub logged_size : List Change → ℕ
 logged_size changes = sum_by size_of (events_of (record { xid = 0; changes = changes }))
 
 -- one transaction more
-abbrev pub logged : Command → Transaction → State → State
-logged asks t s = record { line = s.line + 1; count = s.count + 1; len = s.len + logged_size t.changes; catalog = after_command asks s.catalog; given = s.given ++ t.xid ∷ []; asked = s.asked ++ t ∷ []; halted = None; met = None }
+abbrev pub logged : Transaction → State → State
+logged t s = record { line = s.line + 1; count = s.count + 1; len = s.len + logged_size t.changes; catalog = catalog_after t.changes s.catalog; given = s.given ++ t.xid ∷ []; asked = s.asked ++ t ∷ []; halted = None; met = None }
 
 -- it is halted, at a transaction that may be in the log, or before there was one
 abbrev pub halted_at : HaltCause → Option Transaction → State → State
@@ -61,59 +64,50 @@ halted_at cause met s = record { line = s.line + 1; count = s.count; len = s.len
 abbrev pub IsNextGiven : Rules → State → ℕ → Type 0
 IsNextGiven rules s xid = IsTrue rules.told → IsNextXid (rules.found ++ s.given) xid
 
--- the command makes these changes, and at least one
-pub record Makes (asks : Command) (s : State) (changes : List Change) : Type 0 where
-  pub all : changes ≡ changes_by asks s.catalog
+-- the text comes to this, which makes these changes, and at least one
+pub record Makes (work : Work) (s : State) (changes : List Change) : Type 0 where
+  pub comes : Comes work.text s.catalog work.outcome
+  pub all : changes ≡ changes_by work
   pub some : 0 < length changes
 
--- a transaction by the rules: of the changes that the command makes, under the next xid
-pub record IsAskedBy (rules : Rules) (s : State) (asks : Command) (t : Transaction) : Type 0 where
-  pub made : Makes asks s t.changes
+-- a transaction by the rules: of the changes that the statement makes, under the next xid
+pub record IsAskedBy (rules : Rules) (s : State) (work : Work) (t : Transaction) : Type 0 where
+  pub made : Makes work s t.changes
   pub xid : IsNextGiven rules s t.xid
 
--- the command is a statement
-abbrev pub IsStatement : Command → Type 0
-IsStatement command.Settle = ⊥
-IsStatement command.Bad = ⊥
-IsStatement _ = Unit {0}
-
--- the command is prepared in the engine: INSTALL is prepared nowhere
-abbrev pub is_prepared_for : Command → Bool
-is_prepared_for command.Create = true
-is_prepared_for (command.Insert key text) = true
-is_prepared_for _ = false
-
 -- a statement that is played while the run is not halted
-pub record IsPlayed (line : List ℕ) (asks : Command) (s : State) : Type 0 where
-  pub asks_so : IsCommand line asks
-  pub statement : IsStatement asks
+pub record IsPlayed (line text : List ℕ) (s : State) : Type 0 where
+  pub gives : Gives line text
   pub serves : s.halted ≡ None
 
--- one line: what it asks for tells its reply and the next state, but that a fault may halt the run
+-- one line: what it gives tells its reply and the next state, but that a fault may halt the run
 pub data Turn (rules : Rules) (line : List ℕ) (before : State) (replies : List Reply) (after : State) : Type 0 where
   -- `settle` means nothing
-  settles : IsCommand line command.Settle → replies ≡ [] → after ≡ next_line before → Turn rules line before replies after
+  settles : IsLine line settle → replies ≡ [] → after ≡ next_line before → Turn rules line before replies after
   -- any line that is not known
-  bad : IsCommand line command.Bad → replies ≡ BadLine (before.line + 1) ∷ [] → after ≡ next_line before → Turn rules line before replies after
+  bad : IsUnknown line → replies ≡ BadLine (before.line + 1) ∷ [] → after ≡ next_line before → Turn rules line before replies after
   -- it is refused, and nothing is done
-  refused : (asks : Command) → IsPlayed line asks before → (refusal : Refusal) → refusal_of asks before.catalog ≡ Some refusal
+  refused : (text : List ℕ) → IsPlayed line text before → (refusal : Refusal) → Refuses before.catalog engine_facts text refusal
       → replies ≡ Refused refusal ∷ [] → after ≡ next_line before → Turn rules line before replies after
+  -- rows are answered, and nothing is done
+  answered : (text : List ℕ) → IsPlayed line text before → (rows : List (List Value)) → Comes text before.catalog (outcome.Rows rows)
+      → replies ≡ Rows rows ∷ [] → after ≡ next_line before → Turn rules line before replies after
   -- the engine's journal has no room for it: it is rolled back
-  full : (asks : Command) → IsPlayed line asks before → refusal_of asks before.catalog ≡ None → IsTrue (is_prepared_for asks) → (xid : ℕ) → IsNextGiven rules before xid
+  full : (work : Work) → IsPlayed line work.text before → (changes : List Change) → Makes work before changes → IsTrue (is_prepared_for work) → (xid : ℕ) → IsNextGiven rules before xid
       → replies ≡ Refused TableFull ∷ [] → after ≡ with_given (before.given ++ xid ∷ []) before → Turn rules line before replies after
   -- the log would pass its limit: it is rolled back where it was prepared
-  spent : (asks : Command) → IsPlayed line asks before → refusal_of asks before.catalog ≡ None → (changes : List Change) → Makes asks before changes → (xid : ℕ) → IsNextGiven rules before xid
+  spent : (work : Work) → IsPlayed line work.text before → (changes : List Change) → Makes work before changes → (xid : ℕ) → IsNextGiven rules before xid
       → rules.limit < before.len + logged_size changes → replies ≡ Refused LogSpent ∷ [] → after ≡ with_given (before.given ++ xid ∷ []) before → Turn rules line before replies after
   -- it was logged, is durable and committed
-  logs : (asks : Command) → IsPlayed line asks before → refusal_of asks before.catalog ≡ None → (t : Transaction) → IsAskedBy rules before asks t
-      → before.len + logged_size t.changes ≤ rules.limit → replies ≡ Done (count_of asks) (before.count + 1) ∷ [] → after ≡ logged asks t before → Turn rules line before replies after
+  logs : (work : Work) → IsPlayed line work.text before → (t : Transaction) → IsAskedBy rules before work t
+      → before.len + logged_size t.changes ≤ rules.limit → replies ≡ Done (count_of work) (before.count + 1) ∷ [] → after ≡ logged t before → Turn rules line before replies after
   -- it is halted before anything was logged
-  fails : (asks : Command) → IsPlayed line asks before → (cause : HaltCause) → replies ≡ Halted cause ∷ [] → after ≡ halted_at cause None before → Turn rules line before replies after
+  fails : (text : List ℕ) → IsPlayed line text before → (cause : HaltCause) → replies ≡ Halted cause ∷ [] → after ≡ halted_at cause None before → Turn rules line before replies after
   -- it is halted at a transaction that may be in the log
-  fails_at : (asks : Command) → IsPlayed line asks before → refusal_of asks before.catalog ≡ None → (t : Transaction) → IsAskedBy rules before asks t
+  fails_at : (work : Work) → IsPlayed line work.text before → (t : Transaction) → IsAskedBy rules before work t
       → before.len + logged_size t.changes ≤ rules.limit → (cause : HaltCause) → replies ≡ Halted cause ∷ [] → after ≡ halted_at cause (Some t) before → Turn rules line before replies after
   -- it was halted at an earlier line
-  halts : (asks : Command) → IsCommand line asks → IsStatement asks → (cause : HaltCause) → before.halted ≡ Some cause
+  halts : (text : List ℕ) → Gives line text → (cause : HaltCause) → before.halted ≡ Some cause
       → replies ≡ Halted cause ∷ [] → after ≡ next_line before → Turn rules line before replies after
 
 -- these lines, one after the other
@@ -127,6 +121,7 @@ Plays rules before (line ∷ lines) replies after =
 abbrev pub numbers_of : List Reply → List ℕ
 numbers_of [] = []
 numbers_of (Done count number ∷ replies) = number ∷ numbers_of replies
+numbers_of (Rows rows ∷ replies) = numbers_of replies
 numbers_of (Refused refusal ∷ replies) = numbers_of replies
 numbers_of (Halted cause ∷ replies) = numbers_of replies
 numbers_of (BadLine line ∷ replies) = numbers_of replies

@@ -3,10 +3,11 @@ use Rattle.std.specs.Prelude.{◌++◌, ◌∷◌, [], ℕ, List, codes}
 use Rattle.std.specs.Fmt.{decimal}
 use Rattle.sql_value.specs.declared.refusal.Refusal.{Refusal}
 use Rattle.sql_value.specs.Refusals.{refusal_number, refusal_text}
+use Rattle.schedule_text.specs.Printed.{rows_text}
 use Rattle.plugd.specs.declared.reply.HaltCause.{HaltCause}
 use Rattle.plugd.specs.declared.reply.HaltCause.TheVariants.{Device, NotAVolume}
 use Rattle.plugd.specs.declared.reply.Reply.{Reply}
-use Rattle.plugd.specs.declared.reply.Reply.TheVariants.{Done, Refused, Halted, BadLine}
+use Rattle.plugd.specs.declared.reply.Reply.TheVariants.{Done, Refused, Rows, Halted, BadLine}
 
 -- what a line ends with
 abbrev pub line_feed : List ℕ
@@ -29,9 +30,10 @@ abbrev pub halted_text : HaltCause → List ℕ
 halted_text Device = codes "1 halted device" ++ line_feed
 halted_text (NotAVolume file) = numbered (codes "1 halted volume ") file
 
--- the line that is written for a reply
+-- the lines that are written for a reply: one, but for rows
 abbrev pub text_of : Reply → List ℕ
 text_of (Done count number) = done_text count number
 text_of (Refused refusal) = refused_text refusal
+text_of (Rows rows) = rows_text 1 rows
 text_of (Halted cause) = halted_text cause
 text_of (BadLine line) = numbered (codes "? ") line

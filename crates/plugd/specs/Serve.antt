@@ -10,7 +10,7 @@ use Rattle.binlog_file.specs.Binlog.{flushed_of, end_in}
 use Rattle.log_tables.specs.declared.gist.Gist.{Gist}
 use Rattle.engine_api.specs.States.{Kind, EngineState}
 use Rattle.engine_api.specs.Many.{Working, IsAtWork}
-use Rattle.engine_api.specs.declared.flags.KeyRule.TheVariants.{Allowed}
+use Rattle.sql_step.specs.Catalogs.{Catalog}
 use Rattle.recovery_rules.specs.Recovery.{ShelfEngine, IsRecovered}
 use Rattle.volume_rules.specs.Readers.{Reader, on_shelf, with_gists}
 use Rattle.volume_rules.specs.Images.{IsRecoverableVolume, EachRecovered}
@@ -19,8 +19,8 @@ use Rattle.plugd.specs.declared.reply.HaltCause.{HaltCause}
 use Rattle.plugd.specs.declared.reply.HaltCause.TheVariants.{Device, NotAVolume}
 use Rattle.plugd.specs.declared.server.Server.{Server}
 use Rattle.plugd.specs.LogOne.{IsDurable}
-use Rattle.plugd.specs.Asked.{Catalog, engine_name}
-use Rattle.plugd.specs.Noting.{HasCatalog}
+use Rattle.plugd.specs.Asked.{engine_name, engine_flags, engine_facts}
+use Rattle.plugd.specs.Noting.{AreSound, HasCatalog}
 use Rattle.plugd.specs.Xids.{xids_of}
 use Rattle.plugd.specs.XidSet.{Knows}
 use Rattle.plugd.specs.Crash.{StaysRecoverable, all_of, Safe}
@@ -49,10 +49,11 @@ pub record Core : Type 1 where
 abbrev pub rules_of : Base → Rules
 rules_of base = record { limit = base.limit; told = base.start.told; found = xids_of base.found }
 
--- the engine is JOURNAL: a crash-safe engine of this name, whose files are not the log's
+-- the engine is JOURNAL: a crash-safe engine of this name and library, whose files are not the log's
 pub record IsJournal (kind : Kind) : Type 0 where
   pub name : kind.name ≡ engine_name
-  pub flags : kind.flags ≡ record { transactional = true; crash_safe = true; key = Allowed; nulls = true }
+  pub library : kind.soname ≡ engine_facts.soname
+  pub flags : kind.flags ≡ engine_flags
   pub apart : Contains kind.files 0 → ⊥
 
 -- how the engine's files are read
@@ -136,6 +137,7 @@ pub record Serving (base : Base) (lines : List (List ℕ)) (replies : List Reply
   pub stopped : Stopped base lines replies core state
   pub shows : Shows core.server state
   pub met : state.halted ≡ None → state.met ≡ None
+  pub sound : AreSound state.catalog.definitions
   pub idle : state.halted ≡ None → IsIdle core.engine.state state
   pub rest : IsTrue base.start.told → state.halted ≡ None → IsAtRest base core core.engine.state.gist state state.given
 

@@ -8,7 +8,7 @@ use Rattle.plugd.specs.declared.play.Ending.{Ending}
 use Rattle.plugd.specs.declared.play.Ending.TheVariants.{EndOfInput, SourceFailed, SinkFailed, TooLong, OutOfMemory}
 use Rattle.plugd.specs.declared.reply.Reply.{Reply}
 use Rattle.plugd.specs.declared.session.Session.{Session}
-use Rattle.plugd.specs.Lines.{Splits, AreAll, AreFirst, AreFirstOfAll}
+use Rattle.plugd.specs.Lines.{Splits, AreAll, AreFirst, AreFirstOfAll, front_of}
 use Rattle.plugd.specs.Reply.{text_of}
 use Rattle.plugd.specs.Coordinator.{Telling}
 use Rattle.plugd.specs.Serve.{Base}
@@ -24,7 +24,7 @@ pub record Standing {C : Type 0} (serves : Telling C) (base : Base) (taken spoke
   pub rest : List ℕ
   pub replies : List Reply
   pub splits : Splits taken lines rest
-  pub front : session.front.items ≡ take 80 rest
+  pub front : session.front.items ≡ front_of rest
   pub serving : serves session.core base lines replies
   pub texts : flat_map text_of replies ≡ spoken ++ session.replies.items
 

@@ -22,83 +22,45 @@ ghost use Rattle.binlog_file.specs.Opening.{IsSafe, OpensFor, IsGiven};
 ghost use Rattle.binlog_file.specs.declared.fault.BinlogFault.TheVariants as BinlogFault;
 ghost use Rattle.binlog_file.specs.Binlog.{flushed_of, end_in, IsOpen, Carries};
 ghost use Rattle.plugd.specs.LogOne.{IsDurable, EachOne};
+ghost use Rattle.sql_exec.specs.CarriesOut.{CarriesOut};
+ghost use Rattle.sql_step.specs.Catalogs.{catalog_of, facts_here};
+ghost use Rattle.sql_step.specs.Outcomes.{state_behind, IsLoggable};
+ghost use Rattle.sql_step.specs.Steps.{CanStep, IsTextAnswer};
 ghost use Rattle.plugd.specs.Serve.{session};
 
 use crate::found::Found;
 use crate::log_one::log_one;
 use crate::server::SESSION;
 use binlog_file::{Binlog, BinlogFault, Opened};
+use dictionary::Dictionary;
 use disk_model::{Failed, Storage};
 use engine_api::{Engine, EngineFault};
-use row_format::{Name, Row, Schema};
+use sql_exec::ExecFault;
+use sql_step::Outcome;
 use std::alloc::Global;
 use xid_recovery::{EngineReport, OpenFault, recover_one};
 
-// The schema of the live table of this name.
-pub(crate) fn schema_of<'a>(engine: &'a Box<dyn Engine + Send>, table: &Name) -> Option<&'a Schema>
-    ensures { option_copied result ≡ live_schema table.now (state engine.now) }
-{
-    engine.live(table)
-}
-
-// Makes a table.
-pub(crate) fn create(
-    engine: &mut Box<dyn Engine + Send>,
-    table: &Name,
-    schema: &Schema,
-) -> Result<(), EngineFault>
-    requires free { live_schema table.now (state engine.old) ≡ None }
-    requires schema { IsSchema schema.now }
-    requires allowed { IsTrue (allows (kind engine.old).flags schema.now) }
-    requires unprepared { is_under session (state engine.old) ≡ false }
-    requires apart { IsApart session (Create table.now (kind engine.old).name schema.now)
-        (state engine.old) }
-    ensures same { IsSame (kind engine.old) (kind engine.new)
-        (reading engine.old) (reading engine.new) }
-    ensures notes { Notes result
-        (with_change session (Create table.now (kind engine.old).name schema.now)
-        (state engine.old)) (state engine.old) (state engine.new)
-        (holds engine.old) (holds engine.new) }
-    ensures full { result ≡ Err (code Full) → HasRoom (with_change session
-        (Create table.now (kind engine.old).name schema.now) (state engine.old)) → ⊥ }
-    ensures not_full { OnOk result (HasRoom (state engine.new)) }
-    ensures answers { AnswersAlone (Full ∷ []) result }
-{
-    engine.create(SESSION, table, schema)
-}
-
-// Adds a row.
-pub(crate) fn write_row(
+// Carries out a text in the engine, as a transaction by itself.
+pub(crate) fn carry_out(
+    alloc: Global,
     engine: &mut Box<dyn Engine + Send>,
     storage: &mut Box<dyn Storage + Send>,
-    table: &Name,
-    row: &Row,
-) -> Result<(), EngineFault>
-    requires row { IsRowFor (live_schema table.now (state engine.old)) row.now }
-    requires unprepared { is_under session (state engine.old) ≡ false }
-    requires apart { IsInsertApart session
-        (insert_into table.now (live_schema table.now (state engine.old)) row.now)
-        (state engine.old) }
-    requires holds { IsTrue (disk storage.old).told
-        → holds engine.old (files_in (kind engine.old).files (disk storage.old)) }
+    dictionary: &Dictionary,
+    text: &[u8],
+) -> Result<Outcome, ExecFault>
+    requires step { CanStep dictionary.now (kind engine.old) (reading engine.old)
+        (state engine.old) (holds engine.old) (disk storage.old) }
     ensures same { IsSame (kind engine.old) (kind engine.new)
         (reading engine.old) (reading engine.new) }
-    ensures turns { Turns (kind engine.old) (reading engine.old) result
-        (wrote_state session table.now row.now (state engine.old))
-        (state engine.old) (state engine.new) (holds engine.new)
-        (disk storage.old) (disk storage.new) }
-    ensures duplicate { result ≡ Err (code Duplicate)
-        → IsTrue (is_taken table.now row.now (state engine.old)) }
-    ensures not_duplicate { OnOk result
-        (is_taken table.now row.now (state engine.old) ≡ false) }
-    ensures full { result ≡ Err (code Full)
-        → (is_taken table.now row.now (state engine.old) ≡ false)
-        × (HasRoom (wrote_state session table.now row.now (state engine.old)) → ⊥) }
-    ensures not_full { OnOk result (HasRoom (state engine.new)) }
-    ensures answers { AnswersOnly (Duplicate ∷ Full ∷ []) (kind engine.old).files
-        (disk storage.old).told result }
+    ensures carries { CarriesOut (kind engine.old) (reading engine.old) result
+        (state_behind session result (state engine.old)) (state engine.old)
+        (state engine.new) (holds engine.new) (disk storage.old) (disk storage.new) }
+    ensures answers { IsTextAnswer (catalog_of dictionary.now (state engine.old))
+        (facts_here (kind engine.old)) (kind engine.old).files (disk storage.old).told
+        text.now result }
+    ensures loggable { IfOk result IsLoggable }
 {
-    engine.write_row(&mut **storage, SESSION, table, row)
+    sql_step::carry_out(alloc, engine, &mut **storage, dictionary, SESSION, text)
 }
 
 // Prepares what the session has changed.

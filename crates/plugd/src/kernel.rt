@@ -9,9 +9,9 @@ ghost use Rattle.plugd.specs.Serve.{Core, IsJournal};
 
 use crate::ack::Ack;
 use crate::calls::{bring, open_log};
-use crate::command::{Command, command_of};
 use crate::coordinator::Coordinator;
 use crate::found::Found;
+use crate::heard::{Heard, hear};
 use crate::reply::{HaltCause, Reply};
 use crate::server::Server;
 use binlog_file::BinlogFault;
@@ -91,18 +91,17 @@ impl Coordinator for Kernel {
     }) };
 
     fn answer(&mut self, front: &[u8]) -> Result<Option<Reply>, AllocError> {
-        let command = command_of(self.server.alloc, front)?;
         self.server.lines += 1;
-        match command {
-            Command::Settle => Ok(None),
-            Command::Bad => Ok(Some(Reply::BadLine {
+        match hear(front) {
+            Heard::Settle => Ok(None),
+            Heard::Unknown => Ok(Some(Reply::BadLine {
                 line: self.server.lines,
             })),
-            statement => {
+            Heard::Text { text } => {
                 if let Some(cause) = self.server.halted {
                     return Ok(Some(Reply::Halted { cause }));
                 }
-                let reply = self.play(statement)?;
+                let reply = self.play(text)?;
                 Ok(Some(reply))
             }
         }

@@ -5,9 +5,7 @@
 #![tactic(auto)]
 
 mod ack;
-mod asked;
 mod calls;
-mod command;
 mod coordinator;
 #[cfg(test)]
 mod crash_tests;
@@ -15,6 +13,7 @@ mod dir_storage;
 #[cfg(test)]
 mod fixture;
 mod found;
+mod heard;
 mod kernel;
 mod log_one;
 mod noting;

@@ -6,6 +6,9 @@ ghost use Rattle.std.specs.Fmt.{decimal};
 ghost use Rattle.framed_file.specs.Framed.{IsPrefix};
 ghost use Rattle.plugd.specs.Reply.{text_of, numbered, done_text, refused_text, halted_text};
 
+use crate::server::SESSION;
+use log_tables::Rows;
+use schedule_text::put_rows;
 use sql_value::Refusal;
 use std::alloc::AllocError;
 use std::marker::Model;
@@ -20,13 +23,15 @@ pub enum HaltCause {
 }
 
 /// The answer to one line.
-#[derive(Debug, Drop)]
+#[derive(Drop)]
 pub enum Reply {
     /// The statement was logged as the transaction of this number, from 1, and counts so many rows:
     /// `1 ok COUNT #N`.
     Done { count: u64, number: u64 },
     /// The statement is refused: `1 error CODE TEXT`.
     Refused { refusal: Refusal },
+    /// The rows of a SELECT: `1 rows N`, and a line `1 | ...` for each.
+    Rows { rows: Rows },
     /// The run is halted, now or before: `1 halted device`, or `1 halted volume FILE`.
     Halted { cause: HaltCause },
     /// The line of this number, from 1, is no command: `? N`.
@@ -56,6 +61,7 @@ fn add_reply(reply: &Reply, out: &mut Vec<u8>) -> Result<(), AllocError>
     match reply {
         Reply::Done { count, number } => add_done(*count, *number, out),
         Reply::Refused { refusal } => add_refused(refusal, out),
+        Reply::Rows { rows } => put_rows(SESSION, rows.as_slice(), out),
         Reply::Halted { cause } => add_halted(*cause, out),
         Reply::BadLine { line } => put_numbered(b"? ", *line, out),
     }
@@ -182,7 +188,8 @@ impl Line {
 #[cfg(test)]
 mod tests {
     use super::{HaltCause, Reply, put_reply};
-    use sql_value::Refusal;
+    use log_tables::Rows;
+    use sql_value::{Refusal, Row, Value};
     use std::test::Fail;
 
     fn done(count: u64, number: u64) -> Reply {
@@ -195,6 +202,24 @@ mod tests {
 
     fn halted(cause: HaltCause) -> Reply {
         Reply::Halted { cause }
+    }
+
+    #[test]
+    fn rows_are_lines(rt: HostRuntime) -> Result<(), Fail> {
+        let alloc = rt.alloc();
+        let mut rows = Vec::new(alloc);
+        for number in [-1, 20] {
+            let mut values = Vec::new(alloc);
+            values.push(Value::Int(number))?;
+            values.push(Value::Null)?;
+            rows.push(Row::new(values))?;
+        }
+        let mut out = Vec::new(alloc);
+        let rows = Rows::new(rows);
+        put_reply(&Reply::Rows { rows }, &mut out)?;
+        let want = b"1 rows 2\n1 | -1, NULL\n1 | 20, NULL\n".as_slice();
+        assert!(rt; out.as_slice() == want);
+        Ok(())
     }
 
     #[test]

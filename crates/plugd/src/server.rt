@@ -10,24 +10,19 @@
 //!
 //! Invariant: while it serves, every transaction of the log is durable, the engine is at the log (`IsAtRest`), and so is the dictionary
 //! (`HasCatalog`).
-ghost use Rattle.std.specs.Prelude.{◌≡◌, ◌≤◌, ◌<◌, ◌^◌, [], None, is_some, length, vec_len, vec_capacity};
-ghost use Rattle.std.specs.Str.{bytes_eq};
-ghost use Rattle.std.specs.List.{list_any};
-ghost use Rattle.dictionary.specs.Dictionary.{definition_named};
+ghost use Rattle.std.specs.Prelude.{◌≡◌, ◌≤◌, ◌<◌, ◌^◌, [], None, length, vec_len, vec_capacity};
 ghost use Rattle.row_format.specs.Changes.{AreFitChanges};
-ghost use Rattle.plugd.specs.Asked.{count_of};
 ghost use Rattle.plugd.specs.Spell.{Spells, Acknowledges, with_halt};
 ghost use Rattle.plugd.specs.declared.reply.Reply.TheVariants.{Done, Halted};
 
 use crate::ack::Ack;
-use crate::command::Command;
 use crate::noting::note;
 use crate::reply::{HaltCause, Reply};
 use crate::xids::XidSet;
 use binlog_events::{put_transaction, transaction_len};
 use binlog_file::Binlog;
 use dictionary::Dictionary;
-use row_format::{Changes, Name, Transaction};
+use row_format::{Changes, Transaction};
 use std::alloc::{AllocError, Global};
 
 /// The session by which the engine knows what this server does.
@@ -78,23 +73,6 @@ impl Server {
         }
     }
 
-    // Whether the log has made a table of this name.
-    pub(crate) fn has_table(&self, table: &Name) -> bool
-        ensures { result ≡ is_some (definition_named table.now self.now.dictionary.definitions) }
-    {
-        self.dictionary.find(table).is_some()
-    }
-
-    // Whether the log has installed the engine.
-    pub(crate) fn has_engine(&self, engine: &Name) -> bool
-        ensures { result ≡ list_any (bytes_eq engine.now) self.now.dictionary.installed }
-    {
-        self.dictionary
-            .installed()
-            .iter()
-            .any(|it| engine.is_same(it))
-    }
-
     // Spells the transaction of these changes, makes room for its acknowledgement, and notes them; or tells that the log would pass its
     // limit with it.
     pub(crate) fn spell(&mut self, xid: u64, changes: Changes) -> Result<bool, AllocError>
@@ -117,17 +95,14 @@ impl Server {
         Ok(true)
     }
 
-    // Acknowledges a statement, at this device call, as this transaction of the log.
-    pub(crate) fn acknowledge(&mut self, statement: &Command, number: u64, call: u64) -> Reply
+    // Acknowledges a statement that counts so many rows, at this device call, as this transaction of the log.
+    pub(crate) fn acknowledge(&mut self, count: u64, number: u64, call: u64) -> Reply
         requires room { vec_len self.old.acks < vec_capacity self.old.acks }
         ensures acknowledges { Acknowledges number call self.old self.new }
-        ensures reply { result ≡ Done (count_of statement.now) number }
+        ensures reply { result ≡ Done count number }
     {
         let _ = self.acks.push(Ack { number, call });
-        Reply::Done {
-            count: rows_of(statement),
-            number,
-        }
+        Reply::Done { count, number }
     }
 
     // Halts the run.
@@ -137,15 +112,5 @@ impl Server {
     {
         self.halted = Some(cause);
         Reply::Halted { cause }
-    }
-}
-
-// How many rows a statement counts.
-fn rows_of(statement: &Command) -> u64
-    ensures { result ≡ count_of statement.now }
-{
-    match statement {
-        Command::Insert { .. } => 1,
-        _ => 0,
     }
 }

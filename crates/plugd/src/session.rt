@@ -7,10 +7,10 @@ ghost use Rattle.outer_io.specs.Ends.{Put, PutFront, Counts};
 ghost use Rattle.plugd.specs.Coordinator.{SameReader};
 ghost use Rattle.plugd.specs.Session.{IsStanding, Takes};
 
-use crate::command::MAX_LINE;
 use crate::coordinator::Coordinator;
 use crate::reply::put_reply;
 use outer_io::{Failed, Sink, write_all};
+use schedule_text::MAX_LINE;
 use std::alloc::{AllocError, Global};
 
 /// The coordinator, the open line, and what is to be written.

@@ -1,40 +1,30 @@
 //! A statement on its way: executed in the engine, prepared there, logged, made durable, committed in the engine, acknowledged.
 //!
 //! Each step says what stands behind it of a run that had come so far (`specs/Way.antt`), so that they compose by application.
-ghost use Rattle.std.specs.Prelude.{◌≡◌, List, None, Some, Ok, IsTrue, IfOk, OnErr};
-ghost use Rattle.row_format.specs.declared.change.Change.{Change};
-ghost use Rattle.sql_value.specs.declared.refusal.Refusal.{Refusal as OneRefusal};
-ghost use Rattle.engine_api.specs.declared.fault.Code.{Code as OneCode};
+ghost use Rattle.std.specs.Prelude.{◌≡◌, ℕ, List, None, Some, Ok, IfOk, OnErr, IsTrue};
 ghost use Rattle.engine_api.specs.Calls.{IsSame};
-ghost use Rattle.engine_api.specs.declared.fault.EngineFault.TheVariants.{Code as code};
-ghost use Rattle.plugd.specs.declared.reply.HaltCause.{HaltCause as Cause};
-ghost use Rattle.plugd.specs.declared.statement.Executed.TheVariants as executed;
+ghost use Rattle.sql_step.specs.declared.outcome.Outcome.TheVariants.{Changed, Noted};
 ghost use Rattle.plugd.specs.declared.statement.Prepared.TheVariants as prepared;
+ghost use Rattle.plugd.specs.Asked.{count_of};
 ghost use Rattle.plugd.specs.Serve.{session};
-ghost use Rattle.plugd.specs.declared.command.Command.TheVariants.{Install, Create, Insert};
-ghost use Rattle.plugd.specs.Play.{IsStatement, is_prepared_for};
-ghost use Rattle.std.specs.Option.{option_copied};
-ghost use Rattle.plugd.specs.Asked.{create_refusal, table_refusal, table_schema};
-ghost use Rattle.plugd.specs.Spell.{cause_by, refusal_by};
+ghost use Rattle.plugd.specs.Spell.{cause_by};
 ghost use Rattle.plugd.specs.Way.{SomeOnWay, SomeExecuted, SomeToPrepare, SomeToUndo, SomeReady, PlaysOne, Executes, Commits, Prepares, Undoes, Finishes};
 
-use crate::asked::{
-    create_changes, engine_name, insert_changes, install_changes, row_of, table_name, table_schema,
-};
-use crate::calls::{calls_of, commit, create, log, prepare, roll_back, schema_of, write_row};
-use crate::command::Command;
+use crate::calls::{calls_of, carry_out, commit, log, prepare, roll_back};
 use crate::kernel::{AtWork, Kernel};
 use crate::reply::{HaltCause, Reply};
-use engine_api::{Code, EngineFault};
-use row_format::{Changes, Schema, Text, check_row};
+use engine_api::EngineFault;
+use row_format::Changes;
+use sql_exec::ExecFault;
+use sql_step::Outcome;
 use sql_value::Refusal;
 use std::alloc::AllocError;
 
-/// What became of the execution of a statement.
+/// What became of the execution of a text.
 #[derive(Drop)]
 pub(crate) enum Executed {
-    /// It makes these changes, which the engine has.
-    Changed { changes: Changes },
+    /// It came to this; what it changes in the engine is open there.
+    Done { outcome: Outcome },
     /// It is refused, and nothing was done.
     Refused { refusal: Refusal },
     /// A call of the engine halts the run.
@@ -63,195 +53,62 @@ fn cause_of(fault: EngineFault) -> Result<HaltCause, AllocError>
     }
 }
 
-// Why a CREATE is refused before the engine is asked, if it is: by whether its table was made, and its engine is installed.
-fn create_refusal(made: bool, installed: bool, live: Option<&Schema>) -> Option<Refusal>
-    ensures { result ≡ create_refusal made installed (option_copied live.entry) }
-{
-    if made || live.is_some() {
-        return Some(Refusal::TableExists);
-    }
-    if installed {
-        None
-    } else {
-        Some(Refusal::UnknownEngine)
-    }
-}
-
-// Why an INSERT is refused whatever its row is, if it is, likewise; the one table has this schema.
-fn table_refusal(
-    made: bool,
-    installed: bool,
-    live: Option<&Schema>,
-    schema: &Schema,
-) -> Option<Refusal>
-    requires { schema.now ≡ table_schema }
-    ensures { result ≡ table_refusal made installed (option_copied live.entry) }
-{
-    if !made {
-        return Some(Refusal::NoSuchTable);
-    }
-    if !installed {
-        return Some(Refusal::UnknownEngine);
-    }
-    match live {
-        Some(live) if live.is_same(schema) => None,
-        _ => Some(Refusal::NoSuchTable),
-    }
-}
-
-// What a fault of a row that was to be written means.
-fn not_written(fault: EngineFault) -> Result<Executed, AllocError>
-    ensures refused { (refusal : OneRefusal) → result ≡ Ok (executed.Refused refusal)
-        → (it : OneCode) × (fault ≡ code it) × (refusal ≡ refusal_by it) }
-    ensures halted { (cause : Cause) → result ≡ Ok (executed.Halted cause)
-        → cause_by fault ≡ Some cause }
-    ensures no_change { (changes : List Change) → result ≡ Ok (executed.Changed changes) → ⊥ }
-    ensures none { OnErr result (cause_by fault ≡ None) }
-{
-    match fault {
-        EngineFault::Code(Code::Duplicate) => Ok(Executed::Refused {
-            refusal: Refusal::DuplicateEntry,
-        }),
-        EngineFault::Code(_) => Ok(Executed::Refused {
-            refusal: Refusal::TableFull,
-        }),
-        EngineFault::Device => Ok(Executed::Halted {
-            cause: HaltCause::Device,
-        }),
-        EngineFault::NotAVolume { file } => Ok(Executed::Halted {
-            cause: HaltCause::NotAVolume { file },
-        }),
-        EngineFault::Memory => Err(AllocError),
-    }
-}
-
 impl Kernel {
-    // Plays a statement to its reply.
-    pub(crate) fn play(&mut self, statement: Command) -> Result<Reply, AllocError>
-        requires statement { IsStatement statement }
+    // Plays a text to its reply.
+    pub(crate) fn play(&mut self, text: &[u8]) -> Result<Reply, AllocError>
         requires way { SomeOnWay (⟦<Kernel as AtWork>⟧.core_of self.old) }
         ensures same { IsSame (kind self.old.engine) (kind self.new.engine)
             (reading self.old.engine) (reading self.new.engine) }
-        ensures plays { PlaysOne statement (⟦<Kernel as AtWork>⟧.core_of self.old)
+        ensures plays { PlaysOne text.now (⟦<Kernel as AtWork>⟧.core_of self.old)
             (⟦<Kernel as AtWork>⟧.core_of self.new) result }
     {
-        let changes = match self.execute(&statement)? {
-            Executed::Changed { changes } => changes,
+        let outcome = match self.execute(text)? {
+            Executed::Done { outcome } => outcome,
             Executed::Refused { refusal } => return Ok(Reply::Refused { refusal }),
             Executed::Halted { cause } => return Ok(self.server.halt(cause)),
         };
-        match statement {
-            Command::Install => self.commit_plain(changes),
-            prepared => self.commit_prepared(&prepared, changes),
+        match outcome {
+            Outcome::Rows { rows } => Ok(Reply::Rows { rows }),
+            Outcome::Changed { count, changes } => self.commit_prepared(count, changes),
+            Outcome::Noted { changes } => self.commit_plain(changes),
         }
     }
 
-    // Executes a statement in the engine.
-    fn execute(&mut self, statement: &Command) -> Result<Executed, AllocError>
-        requires statement { IsStatement statement.now }
+    // Executes a text in the engine.
+    fn execute(&mut self, text: &[u8]) -> Result<Executed, AllocError>
         requires way { SomeOnWay (⟦<Kernel as AtWork>⟧.core_of self.old) }
         ensures same { IsSame (kind self.old.engine) (kind self.new.engine)
             (reading self.old.engine) (reading self.new.engine) }
-        ensures executes { Executes statement.now (⟦<Kernel as AtWork>⟧.core_of self.old)
-            (⟦<Kernel as AtWork>⟧.core_of self.new) result }
-    {
-        match statement {
-            Command::Install => self.install(),
-            Command::Create => self.create(),
-            Command::Insert { key, text } => self.insert(*key, text),
-            Command::Settle | Command::Bad => unreachable!(),
-        }
-    }
-
-    fn install(&mut self) -> Result<Executed, AllocError>
-        requires way { SomeOnWay (⟦<Kernel as AtWork>⟧.core_of self.old) }
-        ensures same { IsSame (kind self.old.engine) (kind self.new.engine)
-            (reading self.old.engine) (reading self.new.engine) }
-        ensures executes { Executes Install (⟦<Kernel as AtWork>⟧.core_of self.old)
+        ensures executes { Executes text.now (⟦<Kernel as AtWork>⟧.core_of self.old)
             (⟦<Kernel as AtWork>⟧.core_of self.new) result }
     {
         let alloc = self.server.alloc;
-        let engine = engine_name(alloc)?;
-        if self.server.has_engine(&engine) {
-            return Ok(Executed::Refused {
-                refusal: Refusal::PluginInstalled,
-            });
-        }
-        let changes = install_changes(alloc, engine)?;
-        Ok(Executed::Changed { changes })
-    }
-
-    fn create(&mut self) -> Result<Executed, AllocError>
-        requires way { SomeOnWay (⟦<Kernel as AtWork>⟧.core_of self.old) }
-        ensures same { IsSame (kind self.old.engine) (kind self.new.engine)
-            (reading self.old.engine) (reading self.new.engine) }
-        ensures executes { Executes Create (⟦<Kernel as AtWork>⟧.core_of self.old)
-            (⟦<Kernel as AtWork>⟧.core_of self.new) result }
-    {
-        let alloc = self.server.alloc;
-        let table = table_name(alloc)?;
-        let engine = engine_name(alloc)?;
-        let made = self.server.has_table(&table);
-        let installed = self.server.has_engine(&engine);
-        let live = schema_of(&self.engine, &table);
-        if let Some(refusal) = create_refusal(made, installed, live) {
-            return Ok(Executed::Refused { refusal });
-        }
-        let schema = table_schema(alloc)?;
-        match create(&mut self.engine, &table, &schema) {
-            Ok(()) => {
-                let changes = create_changes(alloc, table, engine, schema)?;
-                Ok(Executed::Changed { changes })
-            }
-            Err(EngineFault::Code(_)) => Ok(Executed::Refused {
-                refusal: Refusal::TableFull,
+        let dictionary = &self.server.dictionary;
+        match carry_out(alloc, &mut self.engine, &mut self.storage, dictionary, text) {
+            Ok(outcome) => Ok(Executed::Done { outcome }),
+            Err(ExecFault::Refused(refusal)) => Ok(Executed::Refused { refusal }),
+            Err(ExecFault::Device) => Ok(Executed::Halted {
+                cause: HaltCause::Device,
             }),
-            Err(_) => Err(AllocError),
-        }
-    }
-
-    fn insert(&mut self, key: i64, text: &Text) -> Result<Executed, AllocError>
-        requires way { SomeOnWay (⟦<Kernel as AtWork>⟧.core_of self.old) }
-        ensures same { IsSame (kind self.old.engine) (kind self.new.engine)
-            (reading self.old.engine) (reading self.new.engine) }
-        ensures executes { Executes (Insert key text.now) (⟦<Kernel as AtWork>⟧.core_of self.old)
-            (⟦<Kernel as AtWork>⟧.core_of self.new) result }
-    {
-        let alloc = self.server.alloc;
-        let table = table_name(alloc)?;
-        let engine = engine_name(alloc)?;
-        let schema = table_schema(alloc)?;
-        let made = self.server.has_table(&table);
-        let installed = self.server.has_engine(&engine);
-        let live = schema_of(&self.engine, &table);
-        if let Some(refusal) = table_refusal(made, installed, live, &schema) {
-            return Ok(Executed::Refused { refusal });
-        }
-        let row = row_of(alloc, key, text.copy()?)?;
-        if let Err(refusal) = check_row(&schema, &row) {
-            return Ok(Executed::Refused { refusal });
-        }
-        match write_row(&mut self.engine, &mut self.storage, &table, &row) {
-            Ok(()) => {
-                let changes = insert_changes(alloc, table, schema, row)?;
-                Ok(Executed::Changed { changes })
-            }
-            Err(fault) => not_written(fault),
+            Err(ExecFault::NotAVolume { file }) => Ok(Executed::Halted {
+                cause: HaltCause::NotAVolume { file },
+            }),
+            Err(ExecFault::Memory) => Err(AllocError),
         }
     }
 
     // Takes a statement of the engine, which was executed, to its reply.
-    fn commit_prepared(
-        &mut self,
-        statement: &Command,
-        changes: Changes,
-    ) -> Result<Reply, AllocError>
-        requires prepared { IsTrue (is_prepared_for statement.now) }
-        requires executed { SomeExecuted statement.now changes
-            (⟦<Kernel as AtWork>⟧.core_of self.old) }
+    fn commit_prepared(&mut self, count: u64, changes: Changes) -> Result<Reply, AllocError>
+        requires executed { (text : List ℕ) × SomeExecuted (record {
+          text = text;
+          outcome = Changed count changes;
+        }) changes (⟦<Kernel as AtWork>⟧.core_of self.old) }
         ensures same { IsSame (kind self.old.engine) (kind self.new.engine)
             (reading self.old.engine) (reading self.new.engine) }
-        ensures commits { Commits statement.now changes (⟦<Kernel as AtWork>⟧.core_of self.old)
+        ensures commits { (text : List ℕ) → Commits (record {
+          text = text;
+          outcome = Changed count changes;
+        }) changes (⟦<Kernel as AtWork>⟧.core_of self.old)
             (⟦<Kernel as AtWork>⟧.core_of self.new) result }
     {
         let xid = self.server.xids.give()?;
@@ -263,7 +120,7 @@ impl Kernel {
         if !self.server.spell(xid, changes)? {
             return Ok(self.undo(Refusal::LogSpent));
         }
-        Ok(self.finish(statement, xid))
+        Ok(self.finish(count, xid))
     }
 
     // Prepares what was executed.
@@ -302,11 +159,11 @@ impl Kernel {
     }
 
     // Logs what is prepared and spelt, commits it in the engine, and acknowledges it.
-    fn finish(&mut self, statement: &Command, xid: u64) -> Reply
-        requires ready { SomeReady statement.now xid (⟦<Kernel as AtWork>⟧.core_of self.old) }
+    fn finish(&mut self, count: u64, xid: u64) -> Reply
+        requires ready { SomeReady count xid (⟦<Kernel as AtWork>⟧.core_of self.old) }
         ensures same { IsSame (kind self.old.engine) (kind self.new.engine)
             (reading self.old.engine) (reading self.new.engine) }
-        ensures finishes { Finishes statement.now xid (⟦<Kernel as AtWork>⟧.core_of self.old)
+        ensures finishes { Finishes count xid (⟦<Kernel as AtWork>⟧.core_of self.old)
             (⟦<Kernel as AtWork>⟧.core_of self.new) result }
     {
         let Ok(()) = log(
@@ -321,17 +178,23 @@ impl Kernel {
         match commit(&mut self.engine, &mut self.storage, xid, number) {
             Ok(()) => self
                 .server
-                .acknowledge(statement, number, calls_of(&self.storage)),
+                .acknowledge(count, number, calls_of(&self.storage)),
             Err(_) => self.server.halt(HaltCause::Device),
         }
     }
 
     // Takes an INSTALL, which no engine prepares, to its reply.
     fn commit_plain(&mut self, changes: Changes) -> Result<Reply, AllocError>
-        requires executed { SomeExecuted Install changes (⟦<Kernel as AtWork>⟧.core_of self.old) }
+        requires executed { (text : List ℕ) × SomeExecuted (record {
+          text = text;
+          outcome = Noted changes;
+        }) changes (⟦<Kernel as AtWork>⟧.core_of self.old) }
         ensures same { IsSame (kind self.old.engine) (kind self.new.engine)
             (reading self.old.engine) (reading self.new.engine) }
-        ensures commits { Commits Install changes (⟦<Kernel as AtWork>⟧.core_of self.old)
+        ensures commits { (text : List ℕ) → Commits (record {
+          text = text;
+          outcome = Noted changes;
+        }) changes (⟦<Kernel as AtWork>⟧.core_of self.old)
             (⟦<Kernel as AtWork>⟧.core_of self.new) result }
     {
         let xid = self.server.xids.give()?;
@@ -348,9 +211,6 @@ impl Kernel {
             return Ok(self.server.halt(HaltCause::Device));
         };
         let number = self.server.log.flushed();
-        Ok(
-            self.server
-                .acknowledge(&Command::Install, number, calls_of(&self.storage)),
-        )
+        Ok(self.server.acknowledge(0, number, calls_of(&self.storage)))
     }
 }

@@ -60,7 +60,7 @@ fn each_refusal_has_its_order(rt: HostRuntime) -> Result<(), Fail> {
 #[test]
 fn lines_are_answered_in_order(rt: HostRuntime) -> Result<(), Fail> {
     let alloc = rt.alloc();
-    let cases: [(&[u8], &[u8]); 6] = [
+    let cases: [(&[u8], &[u8]); 7] = [
         (b"", b""),
         (b"\n", b"? 1\n"),
         (b"settle\n\nno line\r\nsettle\r\n", b"? 2\n? 3\n"),
@@ -70,8 +70,12 @@ fn lines_are_answered_in_order(rt: HostRuntime) -> Result<(), Fail> {
         ),
         (b"settle\nsettle\nsettl", b"? 3\n"),
         (
+            b"# settle\nrun 1\n@2 INSERT INTO t VALUES (1, 'x')\nstep 1",
+            b"? 1\n? 2\n? 3\n? 4\n",
+        ),
+        (
             b"@1 INSERT INTO t VALUES (1, '')                                                 and more\nno",
-            b"? 1\n? 2\n",
+            b"1 error 1064 syntax at 77\n? 2\n",
         ),
     ];
     for (i, (input, want)) in cases.iter().enumerate() {
@@ -81,6 +85,79 @@ fn lines_are_answered_in_order(rt: HostRuntime) -> Result<(), Fail> {
             assert_eq!(rt; code_of(&outcome.status), 0, "input {i} by {piece}");
             assert!(rt; replies.as_slice() == *want, "input {i} by {piece}");
         }
+    }
+    Ok(())
+}
+
+#[test]
+fn a_long_line_is_one_line(rt: HostRuntime) -> Result<(), Fail> {
+    let alloc = rt.alloc();
+    let blanks = [b' '; 1_000];
+    let mut input = joined(alloc, &[TABLE, b"@1 INSERT INTO t VALUES (1, 'x')"])?;
+    for _ in 0..70 {
+        input.extend_from_slice(&blanks)?;
+    }
+    input.extend_from_slice(b"\nsettle\nno\n")?;
+    input.extend_from_slice(ONE)?;
+    let volume = Volume::new(Box::new(alloc, fresh(alloc, Vec::new(alloc))?)?);
+    let (outcome, replies, _) = played(alloc, volume, &input, 4_096)?;
+    assert_eq!(rt; code_of(&outcome.status), 0);
+    let long = b"1 error 9007 statement too long\n".as_slice();
+    let want = joined(
+        alloc,
+        &[b"1 ok 0 #1\n1 ok 0 #2\n", long, b"? 7\n1 ok 1 #3\n"],
+    )?;
+    assert!(rt; replies.as_slice() == want.as_slice());
+    Ok(())
+}
+
+#[test]
+fn statements_of_each_kind_are_answered(rt: HostRuntime) -> Result<(), Fail> {
+    let alloc = rt.alloc();
+    let cases: [(&[u8], &[u8]); 16] = [
+        (TABLE, b"1 ok 0 #1\n1 ok 0 #2\n"),
+        (
+            b"@1 CREATE TABLE u (a VARCHAR(3)) ENGINE = JOURNAL\n",
+            b"1 ok 0 #3\n",
+        ),
+        (
+            b"@1 insert into t values (2, 'y'), (1, null);\n",
+            b"1 ok 2 #4\n",
+        ),
+        (
+            b"@1 SELECT * FROM t\n",
+            b"1 rows 2\n1 | 1, NULL\n1 | 2, 'y'\n",
+        ),
+        (b"@1 SELECT v FROM t WHERE k = 2\n", b"1 rows 1\n1 | 'y'\n"),
+        (b"@1 SELECT * FROM t WHERE v = 'z'\n", b"1 rows 0\n"),
+        (
+            b"@1 INSERT INTO t VALUES (3, 'x'), (2, 'x')\n",
+            b"1 error 1062 duplicate entry\n",
+        ),
+        (b"@1 SELECT k FROM t WHERE k > 1\n", b"1 rows 1\n1 | 2\n"),
+        (
+            b"@1 INSERT INTO u VALUES ('four')\n",
+            b"1 error 1406 data too long\n",
+        ),
+        (b"@1 UPDATE t SET v = 'z'\n", b"1 error 9099 not built\n"),
+        (b"@1 DROP TABLE u\n", b"1 ok 0 #5\n"),
+        (b"@1 SELECT * FROM u\n", b"1 error 1146 no such table\n"),
+        (b"@1 hello\n", b"1 error 1064 syntax at 0\n"),
+        (
+            b"@1 INSTALL PLUGIN csv SONAME 'ha_csv.so'\n",
+            b"1 error 9001 plugin is installed\n",
+        ),
+        (
+            b"@1 INSTALL PLUGIN pages SONAME 'ha_pages.so'\n",
+            b"1 error 9003 no such library\n",
+        ),
+        (b"@1 INSERT INTO t VALUES (3, 'it''s')\n", b"1 ok 1 #6\n"),
+    ];
+    let mut volume = Volume::new(Box::new(alloc, fresh(alloc, Vec::new(alloc))?)?);
+    for (i, (line, want)) in cases.iter().enumerate() {
+        let (_, replies, left) = played(alloc, volume, line, 4_096)?;
+        assert!(rt; replies.as_slice() == *want, "case {i}");
+        volume = left;
     }
     Ok(())
 }

@@ -10,7 +10,7 @@ returns c = λ list is.
     let old = c.args.self.now in
     let next : c.len.result + 1 ≡ length old.pairs.items + 1 = omega (arith, c.len.ensures, old.pairs.ok.0) in
     on_ok c.note.result (λ tells.
-    found_goes list c.args.txn old _ (c.len.result + 1) is
+    found_goes list c.args.txn old _ (c.len.result + 1) is c.requires.fit.changes
     (c.in_ok-add.ensures.added (xids_of list) is.knows)
     c.in_ok-push.ensures.items
     next

@@ -1,39 +1,37 @@
-use Rattle.plugd.proofs.PlayLemmas.{executes_as, some_as, commits_as, is_for, plays_refused, plays_halted, some_executed, plays_committed}
+use Rattle.plugd.proofs.PlayLemmas.{executes_as, executes_to, plays_refused, plays_answered, plays_halted, some_changed, some_noted, plays_changed, plays_noted}
 use Rattle.plugd.proofs.kernel.Kernel.play.Goals as goal
 
 pub returns-in-Refused-clause-plays : goal.returns-in-Refused-clause-plays
 returns-in-Refused-clause-plays g c =
-    let executes = executes_as c.args.statement _ _ _ _ c.in-Refused.is c.in_ok-changes.ensures.executes in
-    plays_refused c.args.statement _ _ c.in-Refused.refusal c.requires.statement executes
+    let executes = executes_as c.args.text.now _ _ _ _ c.in-Refused.is c.in_ok-outcome.ensures.executes in
+    plays_refused c.args.text.now _ _ c.in-Refused.refusal executes
 
 pub returns-in-Halted-clause-plays : goal.returns-in-Halted-clause-plays
 returns-in-Halted-clause-plays g c =
-    let executes = executes_as c.args.statement _ _ _ _ c.in-Halted.is c.in_ok-changes.ensures.executes in
-    plays_halted c.args.statement _ _ c.in-Halted.cause c.halt.new.self c.halt.result c.requires.statement executes c.halt.ensures.server c.halt.ensures.reply
+    let executes = executes_as c.args.text.now _ _ _ _ c.in-Halted.is c.in_ok-outcome.ensures.executes in
+    plays_halted c.args.text.now _ _ c.in-Halted.cause c.halt.new.self c.halt.result executes c.halt.ensures.server c.halt.ensures.reply
 
-pub commit_plain-requires : goal.commit_plain-requires
-commit_plain-requires g c =
-    let executes = executes_as c.args.statement _ _ _ _ c.in-Changed.is c.in_ok-changes.ensures.executes in
-    let some = some_executed c.args.statement _ _ c.in-Changed.changes executes c.requires.way in
-    record { executed = some_as _ _ c.in-Changed.changes _ c.in-Install.is some }
+pub returns-in-Rows-clause-plays : goal.returns-in-Rows-clause-plays
+returns-in-Rows-clause-plays g c =
+    let executes = executes_to c.args.text.now _ _ _ _ _ c.in-Done.is c.in-Rows.is c.in_ok-outcome.ensures.executes in
+    plays_answered c.args.text.now _ _ c.in-Rows.rows executes
 
 pub commit_prepared-requires : goal.commit_prepared-requires
 commit_prepared-requires g c =
-    let executes = executes_as c.args.statement _ _ _ _ c.in-Changed.is c.in_ok-changes.ensures.executes in
-    let some = some_executed c.args.statement _ _ c.in-Changed.changes executes c.requires.way in
-    record {
-      prepared = is_for c.args.statement c.requires.statement c.in_default.not-Install;
-      executed = some;
-    }
+    let executes = executes_to c.args.text.now _ _ _ _ _ c.in-Done.is c.in-Changed.is c.in_ok-outcome.ensures.executes in
+    record { executed = some_changed c.args.text.now _ _ c.in-Changed.count c.in-Changed.changes executes c.requires.way }
 
-pub returns-in-Install-clause-plays : goal.returns-in-Install-clause-plays
-returns-in-Install-clause-plays g c =
-    let executes = executes_as c.args.statement _ _ _ _ c.in-Changed.is c.in_ok-changes.ensures.executes in
-    plays_committed c.args.statement _ _ _ c.in-Changed.changes c.commit_plain.result executes
-    (commits_as _ _ c.in-Changed.changes _ _ c.commit_plain.result c.in-Install.is c.commit_plain.ensures.commits)
+pub returns-in-Changed-clause-plays : goal.returns-in-Changed-clause-plays
+returns-in-Changed-clause-plays g c =
+    let executes = executes_to c.args.text.now _ _ _ _ _ c.in-Done.is c.in-Changed.is c.in_ok-outcome.ensures.executes in
+    plays_changed c.args.text.now _ _ _ c.in-Changed.count c.in-Changed.changes c.commit_prepared.result executes (c.commit_prepared.ensures.commits c.args.text.now)
 
-pub returns-in_default-clause-plays : goal.returns-in_default-clause-plays
-returns-in_default-clause-plays g c =
-    let executes = executes_as c.args.statement _ _ _ _ c.in-Changed.is c.in_ok-changes.ensures.executes in
-    plays_committed c.args.statement _ _ _ c.in-Changed.changes c.commit_prepared.result executes
-    c.commit_prepared.ensures.commits
+pub commit_plain-requires : goal.commit_plain-requires
+commit_plain-requires g c =
+    let executes = executes_to c.args.text.now _ _ _ _ _ c.in-Done.is c.in-Noted.is c.in_ok-outcome.ensures.executes in
+    record { executed = some_noted c.args.text.now _ _ c.in-Noted.changes executes c.requires.way }
+
+pub returns-in-Noted-clause-plays : goal.returns-in-Noted-clause-plays
+returns-in-Noted-clause-plays g c =
+    let executes = executes_to c.args.text.now _ _ _ _ _ c.in-Done.is c.in-Noted.is c.in_ok-outcome.ensures.executes in
+    plays_noted c.args.text.now _ _ _ c.in-Noted.changes c.commit_plain.result executes (c.commit_plain.ensures.commits c.args.text.now)

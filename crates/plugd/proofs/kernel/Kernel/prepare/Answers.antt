@@ -1,6 +1,6 @@
 use Rattle.std.proofs.Common.{rules, [], ◌∷◌, Err, refl, ap}
 use Rattle.engine_api.specs.declared.fault.Code.TheVariants.{Full}
-use Rattle.plugd.proofs.PrepareLemmas.{prepares_done, prepares_full, prepares_halted, prepares_err, spent_where_full}
+use Rattle.plugd.proofs.PrepareLemmas.{ready_unprepared, ready_fresh, prepares_done, prepares_full, prepares_halted, prepares_err, spent_where_full}
 use Rattle.plugd.proofs.kernel.Kernel.prepare.Goals as goal
 
 pub returns-in-Ok-clause-prepares : goal.returns-in-Ok-clause-prepares
@@ -21,3 +21,9 @@ returns-in_ok-cause-in-Err-clause-prepares g c =
 pub returns-in_err-cause-in-Err-clause-prepares : goal.returns-in_err-cause-in-Err-clause-prepares
 returns-in_err-cause-in-Err-clause-prepares g c =
     prepares_err c.from_residual.result (search rules) c.args.xid _ c.in-Err.fault _ _ _ _ _ c.in-Err.ensures.same c.in-Err.ensures.turns c.in_err-cause-in-Err.ensures.none
+
+pub prepare-requires-clause-unprepared : goal.prepare-requires-clause-unprepared
+prepare-requires-clause-unprepared g c = let r = c.requires.ready in ready_unprepared r.0 r.1 r.2 r.3 c.args.xid _ r.4
+
+pub prepare-requires-clause-fresh : goal.prepare-requires-clause-fresh
+prepare-requires-clause-fresh g c = let r = c.requires.ready in ready_fresh r.0 r.1 r.2 r.3 c.args.xid _ r.4

@@ -14,7 +14,7 @@ returns-in_err-push g c =
 
 pub returns-in_ok-push : goal.returns-in_ok-push
 returns-in_ok-push g c =
-    let short : length c.args.self.now.front.items < 80 = omega (arith, c.len.ensures, c.if-len-lt-MAX_LINE.true) in
+    let short : length c.args.self.now.front.items < 65542 = omega (arith, c.len.ensures, c.if-len-lt-MAX_LINE.true) in
     record {
       same = is_same _;
       takes = takes_ok (c.args.byte ∷ []) c.args.self.now _ (λ base taken spoken s. byte_taken base taken spoken c.args.self.now _ s c.args.byte c.if-byte-eq10.false s.serving refl
@@ -23,7 +23,7 @@ returns-in_ok-push g c =
 
 pub returns-else-len-lt-MAX_LINE : goal.returns-else-len-lt-MAX_LINE
 returns-else-len-lt-MAX_LINE g c =
-    let long : 80 ≤ length c.args.self.now.front.items = omega (arith, c.len.ensures, c.if-len-lt-MAX_LINE.false) in
+    let long : 65542 ≤ length c.args.self.now.front.items = omega (arith, c.len.ensures, c.if-len-lt-MAX_LINE.false) in
     record {
       same = is_same _;
       takes = takes_ok (c.args.byte ∷ []) c.args.self.now _ (λ base taken spoken s. byte_taken base taken spoken c.args.self.now _ s c.args.byte c.if-byte-eq10.false s.serving refl
